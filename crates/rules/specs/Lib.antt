@@ -1,0 +1,4 @@
+pub mod Bits
+pub mod Meaning
+pub mod Pairs
+pub mod laws

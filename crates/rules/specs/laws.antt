@@ -1,0 +1,3 @@
+-- Laws that the ghost members and fields of the code hand out: they are proofs, and stand beside the definitions so that contracts can cite them.
+pub mod Bits
+pub mod Pairs

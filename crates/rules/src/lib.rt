@@ -1,0 +1,3 @@
+//! Order rules and the effects of command lists.
+pub mod pair;
+pub mod rule;
