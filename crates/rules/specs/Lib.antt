@@ -1,4 +1,6 @@
 pub mod Bits
+pub mod Judgements
 pub mod Meaning
 pub mod Pairs
+pub mod Refusals
 pub mod laws
