@@ -1,3 +1,4 @@
+pub mod Counts
 pub mod Effects
 pub mod Judging
 pub mod Pairing

@@ -1,4 +1,6 @@
 pub mod Bits
+pub mod Bounds
+pub mod Counting
 pub mod Judgements
 pub mod Meaning
 pub mod Pairs

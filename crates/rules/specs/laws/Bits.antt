@@ -1,6 +1,6 @@
 -- The laws of binary digits, for any width.
 use mathlib.Core.Path.{_≡_, refl, sym, _∙_, ap, subst}
-use mathlib.Core.Bool.{Bool, true, false, cond, _&&_, _||_}
+use mathlib.Core.Bool.{Bool, true, false, cond, not, _&&_, _||_}
 use mathlib.Core.Logic.{_⊎_, inl, inr, ⊎-elim}
 use Prim.Native.Nat.{ℕ, zero, suc, _+_, _-_, _*_, _/_, _%_, _^_, _<_, _≤_}
 use native.Mathlib.Omega.{arith}
@@ -8,8 +8,8 @@ use native.Mathlib.Nat.{zero-mul, add-zero, add-mul, mul-assoc, mul-comm, zero-d
 use lib.Bits.{bitAnd, bitOr}
 use lib.Dec.{eqb}
 use Rattle.std.specs.Orderings.{Decides}
-use Rattle.std.proofs.shelf.Bits.{pow-add, or-shr, or-mod, and-shr, and-mod, shr-shr, field-of, mod-pow-add, shr-high, mod-low, shr-split, pow-pos, shr-below, mod-below, pow-below}
-use Rattle.std.proofs.shelf.Tests.{eqb-true, eq-eqb, ne-eqb, cases-order, cases-lt, false≢true}
+use Rattle.std.proofs.shelf.Bits.{pow-add, or-shr, or-mod, and-shr, and-mod, shr-shr, field-of, mod-pow-add, shr-high, mod-low, shr-split, pow-pos, shr-below, mod-below, pow-below, and-mask}
+use Rattle.std.proofs.shelf.Tests.{eqb-true, eq-eqb, ne-eqb, cases-order, cases-bool, false≢true}
 use Rattle.std.proofs.shelf.Ways.{decides-below-or}
 use Rattle.rules.specs.Bits.{has, some-below, number}
 
@@ -152,3 +152,31 @@ pub has-ext : (a b : ℕ) → ((k : ℕ) → has a k ≡ has b k) → a ≡ b
 has-ext a b h =
     let le : (x : ℕ) → x ≤ a + b → x < 2 ^ (a + b) = λ x l. omega (arith, below-power (a + b)) in
     number-has (a + b) a (le a (omega arith)) ∙ number-ext (has a) (has b) (a + b) (λ k _. h k) ∙ sym (number-has (a + b) b (le b (omega arith)))
+
+-- a number that is not 0 has a bit
+pub some-bit : (n : ℕ) → (n ≡ 0 → ⊥) → (k : ℕ) × (has n k ≡ true)
+some-bit n h = go (cases-bool (some-below n (has n)))
+  where
+    none : (k : ℕ) → some-below k (λ _. false) ≡ false → number (λ _. false) k ≡ 0
+    none zero e = refl
+    none (suc k) e = omega (arith, none k e)
+    go : (some-below n (has n) ≡ true) ⊎ (some-below n (has n) ≡ false) → (k : ℕ) × (has n k ≡ true)
+    go (inl e) = let w = some-is n (has n) .0 e in (w .0, w .2)
+    go (inr e) =
+        let off : (k : ℕ) → k < n → has n k ≡ false = λ k l. ⊎-elim (λ t. absurd (false≢true (sym e ∙ some-is n (has n) .1 (k, l, t)))) (λ f. f) (cases-bool (has n k)) in
+        absurd (h (number-has n n (below-power n) ∙ number-ext (has n) (λ _. false) n off ∙ none n (zeros n)))
+      where
+        zeros : (k : ℕ) → some-below k (λ _. false) ≡ false
+        zeros zero = refl
+        zeros (suc k) = zeros k
+
+-- the code's test of a bit, x >> k & 1
+pub low-bit : (x : ℕ) → eqb (bitAnd x 1) 1 ≡ eqb (x % 2) 1
+low-bit x = ap (λ y. eqb y 1) (and-mask x 1)
+
+pub low-clear : (x : ℕ) → eqb (bitAnd x 1) 0 ≡ not (eqb (x % 2) 1)
+low-clear x = ap (λ y. eqb y 0) (and-mask x 1) ∙ go (x % 2) (two-ways (x % 2) (omega arith))
+  where
+    go : (d : ℕ) → (d ≡ 0) ⊎ (d ≡ 1) → eqb d 0 ≡ not (eqb d 1)
+    go d (inl p) = rw p
+    go d (inr p) = rw p
