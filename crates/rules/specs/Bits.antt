@@ -8,7 +8,7 @@ abbrev pub has : ℕ → ℕ → Bool
 has n k = eqb (n / 2 ^ k % 2) 1
 
 -- whether some number below n passes
-abbrev pub some-below : ℕ → (ℕ → Bool) → Bool
+unfoldable pub some-below : ℕ → (ℕ → Bool) → Bool
 some-below zero f = false
 some-below (suc n) f = f n || some-below n f
 

@@ -1,5 +1,8 @@
+pub mod Automata
 pub mod Bits
 pub mod Bounds
+pub mod Boxes
+pub mod ChartRecords
 pub mod Counting
 pub mod Judgements
 pub mod Meaning

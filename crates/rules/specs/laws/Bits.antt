@@ -4,6 +4,7 @@ use mathlib.Core.Bool.{Bool, true, false, cond, not, _&&_, _||_}
 use mathlib.Core.Logic.{_⊎_, inl, inr, ⊎-elim}
 use Prim.Native.Nat.{ℕ, zero, suc, _+_, _-_, _*_, _/_, _%_, _^_, _<_, _≤_}
 use native.Mathlib.Omega.{arith}
+use native.Mathlib.Numerals.{add-one}
 use native.Mathlib.Nat.{zero-mul, add-zero, add-mul, mul-assoc, mul-comm, zero-div, add-suc, pow-suc, div-eq-of-lt}
 use lib.Bits.{bitAnd, bitOr}
 use lib.Dec.{eqb}
@@ -20,6 +21,7 @@ same-tests false true f g = g refl
 same-tests false false f g = refl
 
 pub some-is : (n : ℕ) (f : ℕ → Bool) → Decides (some-below n f) ((k : ℕ) × (k < n) × (f k ≡ true))
+unfolding some-below
 some-is n f = decides-below-or f (λ k. f k ≡ true) (λ m. some-below m f) (λ k. ((λ e. e), (λ e. e))) refl (λ m. refl) n
 
 -- a digit is 0 or 1
@@ -153,22 +155,26 @@ has-ext a b h =
     let le : (x : ℕ) → x ≤ a + b → x < 2 ^ (a + b) = λ x l. omega (arith, below-power (a + b)) in
     number-has (a + b) a (le a (omega arith)) ∙ number-ext (has a) (has b) (a + b) (λ k _. h k) ∙ sym (number-has (a + b) b (le b (omega arith)))
 
+pub some-none : (f : ℕ → Bool) → some-below 0 f ≡ false
+unfolding some-below
+some-none f = refl
+
+pub some-more : (n : ℕ) (f : ℕ → Bool) → some-below (n + 1) f ≡ (f n || some-below n f)
+unfolding some-below
+some-more n f = rw add-one
+
 -- a number that is not 0 has a bit
 pub some-bit : (n : ℕ) → (n ≡ 0 → ⊥) → (k : ℕ) × (has n k ≡ true)
 some-bit n h = go (cases-bool (some-below n (has n)))
   where
-    none : (k : ℕ) → some-below k (λ _. false) ≡ false → number (λ _. false) k ≡ 0
-    none zero e = refl
-    none (suc k) e = omega (arith, none k e)
+    zeros : (k : ℕ) → number (λ _. false) k ≡ 0
+    zeros zero = refl
+    zeros (suc k) = omega (arith, zeros k)
     go : (some-below n (has n) ≡ true) ⊎ (some-below n (has n) ≡ false) → (k : ℕ) × (has n k ≡ true)
     go (inl e) = let w = some-is n (has n) .0 e in (w .0, w .2)
     go (inr e) =
         let off : (k : ℕ) → k < n → has n k ≡ false = λ k l. ⊎-elim (λ t. absurd (false≢true (sym e ∙ some-is n (has n) .1 (k, l, t)))) (λ f. f) (cases-bool (has n k)) in
-        absurd (h (number-has n n (below-power n) ∙ number-ext (has n) (λ _. false) n off ∙ none n (zeros n)))
-      where
-        zeros : (k : ℕ) → some-below k (λ _. false) ≡ false
-        zeros zero = refl
-        zeros (suc k) = zeros k
+        absurd (h (number-has n n (below-power n) ∙ number-ext (has n) (λ _. false) n off ∙ zeros n))
 
 -- the code's test of a bit, x >> k & 1
 pub low-bit : (x : ℕ) → eqb (bitAnd x 1) 1 ≡ eqb (x % 2) 1
