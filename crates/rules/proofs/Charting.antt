@@ -21,7 +21,7 @@ use Rattle.rules.specs.Bits.{has, some-below}
 use Rattle.rules.specs.Boxes.{pairs, through, composed, identity, accepting, charted, Drawn, Charts}
 use Rattle.rules.specs.ChartRecords.{Reads, Inside, drawn-boxes, drawn-finals}
 use Rattle.rules.specs.Meaning.{Below, effect}
-use Rattle.rules.specs.laws.Bits.{has-or, has-pow, has-zero, some-is, some-more, low-bit}
+use Rattle.rules.specs.laws.Bits.{has-or, has-pow, has-zero, some-is, some-more, bit-test}
 use Rattle.rules.specs.laws.Boxes.{between, pairs-composed, pairs-identity}
 
 -- ---- drawing one record
@@ -160,11 +160,11 @@ module _ (finals : List Bool) (a : ℕ) where
 
   pub ends-here : (q : ℕ) → q < 8 → getD finals q false ≡ true → bitAnd (a / 2 ^ q) 1 ≡ 1 → true ≡ accepting finals a
   ends-here q h f t =
-    let bit : pairs a 0 q ≡ true = ap (has a) (zero-add q) ∙ sym (low-bit (a / 2 ^ q)) ∙ eq-eqb (bitAnd (a / 2 ^ q) 1) 1 t in
+    let bit : pairs a 0 q ≡ true = ap (has a) (zero-add q) ∙ sym (bit-test a q) ∙ eq-eqb (bitAnd (a / 2 ^ q) 1) 1 t in
     sym (some-is 8 Ends-at .1 (q, h, and-from (getD finals q false) (pairs a 0 q) f bit))
 
   pub no-bit : (q : ℕ) → (bitAnd (a / 2 ^ q) 1 ≡ 1 → ⊥) → Ends-at q ≡ false
-  no-bit q t = and-right (getD finals q false) (pairs a 0 q) (ap (has a) (zero-add q) ∙ sym (low-bit (a / 2 ^ q)) ∙ ne-eqb (bitAnd (a / 2 ^ q) 1) 1 t)
+  no-bit q t = and-right (getD finals q false) (pairs a 0 q) (ap (has a) (zero-add q) ∙ sym (bit-test a q) ∙ ne-eqb (bitAnd (a / 2 ^ q) 1) 1 t)
 
   pub ends-more : (q : ℕ) → some-below q Ends-at ≡ false → Ends-at q ≡ false → some-below (q + 1) Ends-at ≡ false
   ends-more q h here = some-more q Ends-at ∙ or-from (Ends-at q) (some-below q Ends-at) here h

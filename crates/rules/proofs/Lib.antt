@@ -5,3 +5,5 @@ pub mod Effects
 pub mod Joins
 pub mod Judging
 pub mod Pairing
+pub mod Registering
+pub mod Surveying

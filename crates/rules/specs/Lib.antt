@@ -1,4 +1,5 @@
 pub mod Automata
+pub mod Behaviours
 pub mod Bits
 pub mod Bounds
 pub mod Boxes
@@ -8,4 +9,6 @@ pub mod Judgements
 pub mod Meaning
 pub mod Pairs
 pub mod Refusals
+pub mod Register
+pub mod Sets
 pub mod laws

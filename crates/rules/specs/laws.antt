@@ -3,3 +3,4 @@ pub mod Bits
 pub mod Boxes
 pub mod Counting
 pub mod Pairs
+pub mod Sets

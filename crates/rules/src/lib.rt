@@ -2,7 +2,9 @@
 pub mod bounded;
 pub mod chart;
 pub mod count;
+pub mod effect_set;
 pub mod fault;
 pub mod lists;
 pub mod pair;
+mod register;
 pub mod rule;

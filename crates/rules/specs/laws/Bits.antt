@@ -176,12 +176,12 @@ some-bit n h = go (cases-bool (some-below n (has n)))
         let off : (k : ℕ) → k < n → has n k ≡ false = λ k l. ⊎-elim (λ t. absurd (false≢true (sym e ∙ some-is n (has n) .1 (k, l, t)))) (λ f. f) (cases-bool (has n k)) in
         absurd (h (number-has n n (below-power n) ∙ number-ext (has n) (λ _. false) n off ∙ zeros n))
 
--- the code's test of a bit, x >> k & 1
-pub low-bit : (x : ℕ) → eqb (bitAnd x 1) 1 ≡ eqb (x % 2) 1
-low-bit x = ap (λ y. eqb y 1) (and-mask x 1)
+-- the tests of one bit, as code makes them
+pub bit-test : (s k : ℕ) → eqb (bitAnd (s / 2 ^ k) 1) 1 ≡ has s k
+bit-test s k = ap (λ x. eqb x 1) (and-mask (s / 2 ^ k) 1)
 
-pub low-clear : (x : ℕ) → eqb (bitAnd x 1) 0 ≡ not (eqb (x % 2) 1)
-low-clear x = ap (λ y. eqb y 0) (and-mask x 1) ∙ go (x % 2) (two-ways (x % 2) (omega arith))
+pub bit-clear : (s k : ℕ) → eqb (bitAnd (s / 2 ^ k) 1) 0 ≡ not (has s k)
+bit-clear s k = ap (λ y. eqb y 0) (and-mask (s / 2 ^ k) 1) ∙ go (s / 2 ^ k % 2) (two-ways (s / 2 ^ k % 2) (omega arith))
   where
     go : (d : ℕ) → (d ≡ 0) ⊎ (d ≡ 1) → eqb d 0 ≡ not (eqb d 1)
     go d (inl p) = rw p

@@ -1,0 +1,50 @@
+use Prim.Native.Nat.{_<_}
+use mathlib.Core.Path.{_≡_, sym, _∙_, ap, subst}
+use native.Mathlib.Omega.{arith}
+use lib.ListN.{take}
+use Rattle.rules.specs.Register.{row, of-effects}
+use Rattle.rules.proofs.Judging.{known-command}
+use Rattle.rules.proofs.Surveying.{ready, rows-start, rows-more, rows-off, rows-end, next-own}
+use Rattle.rules.proofs.register.extend.Needs as need
+
+pub loop-c-holds : need.loop-c-holds
+loop-c-holds g c =
+    rows-start (g .R·OrderRule .meaning (c .args .rule .now)) (g .R·OrderRule .lawful (c .args .rule .now)) (c .args .slice .now) (c .args .count) (c .args .from)
+    (record { few = c .pre .few; room = c .pre .room; met = c .pre .met })
+
+pub enter-requires : need.enter-requires
+enter-requires g c κs =
+    let m = g .R·OrderRule .meaning (c .args .rule .now) in
+    let law = g .R·OrderRule .lawful (c .args .rule .now) in
+    let k = known-command m law (c .loop-c .c) (c .in-Some .effect) (c .command .result) (c .in-Some .is) (c .command .ensures .some) (c .command .ensures .none) in
+    let own = law .own-command (c .loop-c .c) (k .0) in
+    let to : c .join .result ≡ m .join (c .args .from) (m .command (c .loop-c .c)) = c .join .ensures (c .pre .own) (subst (m .own) (sym (k .1)) own) ∙ ap (m .join (c .args .from)) (k .1) in
+    let r = ready m law (c .args .slice .now) (c .loop-c .slice) (c .loop-c .met) _ _ (c .pre .room) (c .loop-c .inv) in
+    record { few = r .few; room = r .room; met = r .met; own = subst (m .own) (sym to) (next-own m law (c .args .from) (c .pre .own) (c .loop-c .c) (k .0)) }
+
+pub returns-in-Break-met : need.returns-in-Break-met
+returns-in-Break-met g c =
+    let m = g .R·OrderRule .meaning (c .args .rule .now) in
+    let law = g .R·OrderRule .lawful (c .args .rule .now) in
+    let k = known-command m law (c .loop-c .c) (c .in-Some .effect) (c .command .result) (c .in-Some .is) (c .command .ensures .some) (c .command .ensures .none) in
+    let own = law .own-command (c .loop-c .c) (k .0) in
+    let to : c .join .result ≡ m .join (c .args .from) (m .command (c .loop-c .c)) = c .join .ensures (c .pre .own) (subst (m .own) (sym (k .1)) own) ∙ ap (m .join (c .args .from)) (k .1) in
+    let a = rows-off m law (c .args .slice .now) (c .loop-c .slice) (c .enter .last .slice) (c .loop-c .met) (c .loop-c .c) (c .args .from) (c .join .result) _ (c .pre .room) (k .0) (c .pre .own) to (c .loop-c .inv)
+      (sym (c .in-Break-met .was tt) ∙ c .enter .ensures .count) (c .enter .ensures .slice) in
+    record { count = c .from-residual .ensures ∙ a .0; slice = a .1 }
+
+pub loop-c-again : need.loop-c-again
+loop-c-again g c =
+    let m = g .R·OrderRule .meaning (c .args .rule .now) in
+    let law = g .R·OrderRule .lawful (c .args .rule .now) in
+    let k = known-command m law (c .loop-c .c) (c .in-Some .effect) (c .command .result) (c .in-Some .is) (c .command .ensures .some) (c .command .ensures .none) in
+    let own = law .own-command (c .loop-c .c) (k .0) in
+    let to : c .join .result ≡ m .join (c .args .from) (m .command (c .loop-c .c)) = c .join .ensures (c .pre .own) (subst (m .own) (sym (k .1)) own) ∙ ap (m .join (c .args .from)) (k .1) in
+    rows-more m law (c .args .slice .now) (c .loop-c .slice) (c .enter .last .slice) (c .loop-c .met) (c .loop-c .c) (c .args .from) (c .join .result) _ (c .pre .room) (k .0) (c .pre .own) to (c .loop-c .inv)
+    (c .in-Continue-met .met) (sym (c .in-Continue-met .was tt) ∙ c .enter .ensures .count) (c .enter .ensures .slice)
+
+pub returns : need.returns
+returns g c =
+    let m = g .R·OrderRule .meaning (c .args .rule .now) in
+    let a = rows-end m (g .R·OrderRule .lawful (c .args .rule .now)) (c .args .slice .now) (c .loop-c .slice) (c .loop-c .met) (c .loop-c .c) (c .args .from) (row (of-effects m) (m .commands) 0 (take (c .args .count) (c .args .slice .now)) (c .args .from)) (omega (arith, c .commands-c-end .ensures)) (c .loop-c .inv) in
+    record { count = a .0; slice = a .1 }
