@@ -4,6 +4,7 @@ pub mod Counts
 pub mod Effects
 pub mod Joins
 pub mod Judging
+pub mod ByLists
 pub mod Pairing
 pub mod Registering
 pub mod Surveying

@@ -7,8 +7,10 @@ pub mod ChartRecords
 pub mod Counting
 pub mod Judgements
 pub mod Meaning
+pub mod Numbering
 pub mod Pairs
 pub mod Refusals
 pub mod Register
 pub mod Sets
+pub mod Tables
 pub mod laws
