@@ -5,6 +5,7 @@ pub mod Effects
 pub mod Joins
 pub mod Judging
 pub mod ByLists
+pub mod Meetings
 pub mod Pairing
 pub mod Registering
 pub mod Surveying
