@@ -9,3 +9,4 @@ pub mod Meetings
 pub mod Pairing
 pub mod Registering
 pub mod Surveying
+pub mod TableNumbers
