@@ -10,3 +10,5 @@ pub mod Pairing
 pub mod Registering
 pub mod Surveying
 pub mod TableNumbers
+pub mod TableViews
+pub mod Tabling

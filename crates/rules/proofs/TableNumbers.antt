@@ -7,6 +7,7 @@ use Prim.Native.Nat.{ℕ, zero, suc, _<_, _≤_}
 use native.Mathlib.Omega.{arith}
 use lib.ListN.{length, getD, drop}
 use Rattle.std.specs.Iters.{counting}
+use Rattle.std.specs.Options.{isSome}
 use Rattle.std.specs.declared.option.Option.{Option}
 use Rattle.std.specs.declared.option.Option.the-variants.{Some, None}
 use Rattle.std.specs.shelf.Lists.{All}
@@ -84,6 +85,13 @@ module _ (b : Behaviour) (law : LawfulBehaviour b) (reg : List (List ℕ)) (clos
       go (Some i) e (j, (is, f)) =
         let n : j ≡ num w = let z : j ≡ i = omega arith in z ∙ sym (ap found e) in
         record { below = subst (λ k. k < length reg) n (f .below); alike = subst (λ k. b .same (list k) w ≡ true) n (f .alike) }
+
+  pub known-place : (w : List ℕ) → Below C w → isSome (place (b .same) 0 reg w) ≡ true
+  known-place w o = go (place (b .same) 0 reg w) (placed (b .same) [] 0 reg w)
+    where
+      go : (p : Option ℕ) → Placed (b .same) [] 0 reg w p → isSome p ≡ true
+      go (Some i) p = refl
+      go None m = let k = known w o in absurd (both-ways (b .same (list (k .0)) w) (m (k .0) (k .1)) (k .2))
 
   is-number : (w : List ℕ) → Below C w → (k : ℕ) → k < length reg → b .same (list k) w ≡ true → num w ≡ k
   is-number w o k h p = one-place w o (num w) k (at w o .below) h (at w o .alike) p

@@ -6,11 +6,14 @@ pub mod Boxes
 pub mod ChartRecords
 pub mod Counting
 pub mod Judgements
+pub mod Lookups
 pub mod Meaning
 pub mod Numbering
 pub mod Pairs
 pub mod Refusals
 pub mod Register
 pub mod Sets
+pub mod Surveys
 pub mod Tables
+pub mod Views
 pub mod laws

@@ -8,3 +8,4 @@ pub mod lists;
 pub mod pair;
 mod register;
 pub mod rule;
+pub mod table;

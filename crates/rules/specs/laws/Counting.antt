@@ -4,16 +4,14 @@ use mathlib.Core.List.{List}
 use Prim.Native.Nat.{ℕ, _+_, _%_, _<_, _≤_}
 use native.Mathlib.Omega.{arith}
 use native.Mathlib.Nat.{mod-add-mod, add-mod-mod, add-assoc, mod-eq-of-lt, add-zero, zero-add}
-use lib.ListN.{length, length-take}
+use lib.ListN.{length}
 use Rattle.std.proofs.shelf.Bits.{mod-below}
 use Rattle.std.proofs.shelf.Ways.{decides-eqb}
 use Rattle.rules.specs.declared.bounded.Bounded.{Bounded}
 use Rattle.rules.specs.Bounds.{items}
 use Rattle.rules.specs.Counting.{counted, Modular, Residues}
 use Rattle.rules.specs.Meaning.{Lawful}
-
-pub length-items : {T : Type 0} {N : ℕ} (b : Bounded T N) → length (items b) ≡ b .len
-length-items b = omega (arith, length-take (b .len) (b .cells), b .few, b .whole)
+use Rattle.rules.specs.laws.Bounds.{length-items}
 
 pub counted-lawful : (m : ℕ) (weights : Bounded ℕ 16) (mask : ℕ) → Modular m → 1 ≤ length (items weights) → Residues m (items weights) (length (items weights)) → Lawful (counted m (items weights) mask)
 counted-lawful m weights mask modular some residues = record {

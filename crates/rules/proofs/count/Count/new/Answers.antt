@@ -5,7 +5,7 @@ use lib.ListN.{length, getD}
 use Rattle.std.proofs.shelf.Tests.{eqb-false}
 use Rattle.rules.specs.Bounds.{items}
 use Rattle.rules.specs.Counting.{counted, Counts, Modular, Few, Residues, Masks}
-use Rattle.rules.specs.laws.Counting.{length-items}
+use Rattle.rules.specs.laws.Bounds.{length-items}
 use Rattle.rules.proofs.Counts.{counts, masks-from-shift, masks-from-width, shift-from-masks}
 use Rattle.rules.proofs.count.Count.new.Needs as need
 use Rattle.rules.proofs.count.Count.new.Needs.{else-modulus-lt64·by·then-modulus-lt64·else-permitted-modulus-ne0, else-modulus-lt64·by·else-modulus-lt64}
