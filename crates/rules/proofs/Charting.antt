@@ -2,7 +2,7 @@
 use mathlib.Core.Path.{_≡_, refl, sym, _∙_, ap, subst}
 use mathlib.Core.Bool.{Bool, true, false, not, _&&_, _||_}
 use mathlib.Core.List.{List, [], _∷_}
-use mathlib.Core.Logic.{_⊎_, inl, inr, ⊎-elim, _≢_}
+use mathlib.Core.Logic.{_⊎_, inl, inr, ⊎-elim, _↔_}
 use Prim.Native.Nat.{ℕ, _+_, _*_, _/_, _%_, _^_, _<_, _≤_}
 use native.Mathlib.Nat.{zero-add}
 use native.Mathlib.Omega.{arith}
@@ -16,13 +16,14 @@ use Rattle.std.proofs.shelf.Tests.{eqb-true, eq-eqb, and-parts, and-from, or-ca
 use Rattle.std.proofs.shelf.Ways.{decides-eqb, decides-at, decides-like, decides-not, not-from-decides}
 use Rattle.rules.specs.declared.chart.ChartRecord.{ChartRecord}
 use Rattle.rules.specs.declared.chart.ChartRecord.the-variants.{Arrow as arrow, Final as final}
-use Rattle.rules.specs.Automata.{record-at, arrow-bytes, final-bytes, Arrow-form, Final-form, Formed, Arrow, Final, Leads, Accepts}
+use Rattle.rules.specs.Automata.{record-at, arrow-bytes, final-bytes, Arrow-form, Final-form, Formed, Arrow, Final, Leads, Accepts, Lead-alike}
 use Rattle.rules.specs.Bits.{has, some-below}
 use Rattle.rules.specs.Boxes.{pairs, through, composed, identity, accepting, charted, Drawn, Charts}
 use Rattle.rules.specs.ChartRecords.{Reads, Inside, drawn-boxes, drawn-finals}
 use Rattle.rules.specs.Meaning.{Below, effect}
-use Rattle.rules.specs.laws.Bits.{has-or, has-pow, has-zero, some-is, some-more, bit-test}
-use Rattle.rules.specs.laws.Boxes.{between, pairs-composed, pairs-identity}
+use Rattle.rules.specs.laws.Bits.{same-tests, has-or, has-pow, has-zero, some-is, some-more, bit-test}
+use Rattle.rules.specs.laws.Boxes.{between, pairs-composed, pairs-identity, box-ext, charted-lawful}
+use Rattle.rules.proofs.Effects.{effect-own}
 
 -- ---- drawing one record
 
@@ -118,7 +119,7 @@ length-finals (final q) finals = length-set finals q true
 
 -- ---- what the whole chart means
 
-module _ (bytes : List ℕ) (boxes : List ℕ) (finals : List Bool) (drawn : Drawn bytes (length bytes / 12) boxes finals) where
+module _ (bytes : List ℕ) (boxes : List ℕ) (finals : List Bool) (boxed : (c : ℕ) → c < 16 → getD boxes c 0 < 2 ^ 64) (drawn : Drawn bytes (length bytes / 12) boxes finals) where
   leads-is : (w : List ℕ) → Below 16 w → (p q : ℕ) → p < 8 → q < 8 → Decides (pairs (effect (charted boxes finals) w) p q) (Leads bytes p w q)
   leads-is [] o p q hp hq = decides-at (pairs identity p q) (eqb p q) (pairs-identity p q hp hq) (decides-eqb p q)
   leads-is (c ∷ w) (hc, o) p q hp hq =
@@ -141,10 +142,18 @@ module _ (bytes : List ℕ) (boxes : List ℕ) (finals : List Bool) (drawn : Dra
        (x .0, drawn .ends (x .0) (x .1) .0 (y .0), leads-is w o 0 (x .0) (omega arith) (x .1) .0 (y .1))),
      (λ a. let h = a .1 .2 .0 in s .1 (a .0, h, and-from (getD finals (a .0) false) (pairs e 0 (a .0)) (drawn .ends (a .0) h .1 (a .1)) (leads-is w o 0 (a .0) (omega arith) h .1 (a .2)))))
 
+  alike : (u v : List ℕ) → Below 16 u → Below 16 v → (effect (charted boxes finals) u ≡ effect (charted boxes finals) v) ↔ Lead-alike bytes u v
+  alike u v o r =
+    let own : (w : List ℕ) → Below 16 w → effect (charted boxes finals) w < 2 ^ 64 = effect-own (charted boxes finals) (charted-lawful boxes finals boxed) in
+    ((λ e p q h l. ((λ x. leads-is v r p q h l .0 (ap (λ a. pairs a p q) (sym e) ∙ leads-is u o p q h l .1 x)), (λ x. leads-is u o p q h l .0 (ap (λ a. pairs a p q) e ∙ leads-is v r p q h l .1 x)))),
+     (λ same. box-ext (effect (charted boxes finals) u) (effect (charted boxes finals) v) (own u o) (own v r)
+       (λ p q h l. same-tests _ _ (λ t. leads-is v r p q h l .1 (same p q h l .0 (leads-is u o p q h l .0 t))) (λ t. leads-is u o p q h l .1 (same p q h l .1 (leads-is v r p q h l .0 t))))))
+
   pub charts : Charts bytes (charted boxes finals)
   charts = record {
     commands = refl;
     boxes = leads-is;
+    alike = alike;
     permits = λ w. (
       (λ h. accepts-is w (h .0) .0 (not-false (accepting finals (effect (charted boxes finals) w)) (h .1))),
       (λ a. let o = leads-below w 0 (a .0) (a .2) in (o, not-from-true (accepting finals (effect (charted boxes finals) w)) (accepts-is w o .1 a))));

@@ -1,7 +1,7 @@
 -- Charts as finite automata: what the bytes name, and which lists are accepted.
 use mathlib.Core.Path.{_≡_}
 use mathlib.Core.List.{List, [], _∷_}
-use mathlib.Core.Logic.{_⊎_}
+use mathlib.Core.Logic.{_⊎_, _↔_}
 use Prim.Native.Nat.{ℕ, _*_, _/_, _%_, _<_, _≤_}
 use lib.ListN.{length, take, drop, replicate}
 use Rattle.rules.specs.declared.fault.RuleFault.{RuleFault}
@@ -64,3 +64,7 @@ Leads bytes p (c ∷ w) q = (r : ℕ) × Arrow bytes (length bytes / 12) p c r �
 -- from state 0 to a final state
 abbrev pub Accepts : List ℕ → List ℕ → Type 0
 Accepts bytes w = (q : ℕ) × Final bytes (length bytes / 12) q × Leads bytes 0 w q
+
+-- the two lists lead between the same states
+abbrev pub Lead-alike : List ℕ → List ℕ → List ℕ → Type 0
+Lead-alike bytes u v = (p q : ℕ) → p < 8 → q < 8 → Leads bytes p u q ↔ Leads bytes p v q

@@ -7,7 +7,7 @@ use Prim.Native.Nat.{ℕ, _+_, _*_, _/_, _%_, _^_, _<_}
 use lib.Dec.{eqb}
 use lib.ListN.{length, getD}
 use Rattle.std.specs.Orderings.{Decides}
-use Rattle.rules.specs.Automata.{Arrow, Final, Leads, Accepts}
+use Rattle.rules.specs.Automata.{Arrow, Final, Leads, Accepts, Lead-alike}
 use Rattle.rules.specs.Bits.{has, some-below, number}
 use Rattle.rules.specs.Meaning.{Meaning, Below, effect, Permitted, Forbidden}
 
@@ -49,5 +49,6 @@ pub record Drawn (bytes : List ℕ) (n : ℕ) (boxes : List ℕ) (finals : List 
 pub record Charts (bytes : List ℕ) (x : Meaning ℕ) : Type 0 where
   pub commands : x .commands ≡ 16
   pub boxes : (w : List ℕ) → Below 16 w → (p q : ℕ) → p < 8 → q < 8 → Decides (pairs (effect x w) p q) (Leads bytes p w q)
+  pub alike : (u v : List ℕ) → Below 16 u → Below 16 v → (effect x u ≡ effect x v) ↔ Lead-alike bytes u v
   pub permits : (w : List ℕ) → Permitted x w ↔ Accepts bytes w
   pub forbids : (w : List ℕ) → Forbidden x w ↔ (Below 16 w × (Accepts bytes w → ⊥))

@@ -79,6 +79,12 @@ same-box f a h each =
       same-tests _ _ (λ t. sym e ∙ d .0 t) (λ t. d .1 (e ∙ t)))
     ∙ sym (number-has 64 a h)
 
+-- boxes with the same pairs are one
+pub box-ext : (a b : ℕ) → a < 2 ^ 64 → b < 2 ^ 64 → ((p q : ℕ) → p < 8 → q < 8 → pairs a p q ≡ pairs b p q) → a ≡ b
+box-ext a b h l each =
+    number-has 64 a h ∙ number-ext (has a) (λ k. pairs a (k / 8) (k % 8)) 64 (λ k _. ap (has a) (sym (split-place k)))
+    ∙ same-box (pairs a) b l (λ p q x y. ((λ t. sym (each p q x y) ∙ t), (λ t. each p q x y ∙ t)))
+
 composed-left : (a : ℕ) → a < 2 ^ 64 → composed identity a ≡ a
 unfolding composed
 composed-left a h = same-box (through identity a) a h (λ p q l k. (

@@ -39,4 +39,4 @@ returns c =
     let e : c .loop-i .i ≡ length bytes / 12 = omega arith in
     let inv = c .loop-i .inv in
     (((c .if-bytes-ne0 .left, omega arith), λ i h. inv .1 i (omega arith)),
-     charts bytes (c .loop-i .chart .0) (c .loop-i .chart .1 .0) (subst (λ n. Drawn bytes n (c .loop-i .chart .0) (c .loop-i .chart .1 .0)) e (inv .0)))
+     charts bytes (c .loop-i .chart .0) (c .loop-i .chart .1 .0) (inv .2) (subst (λ n. Drawn bytes n (c .loop-i .chart .0) (c .loop-i .chart .1 .0)) e (inv .0)))
