@@ -1,5 +1,6 @@
 -- The register's loops over a rule's effects, in the terms of the code's own calls.
 use mathlib.Core.Path.{_≡_, refl, sym, _∙_, ap, subst}
+use mathlib.Core.Bool.{Bool, true, false}
 use mathlib.Core.List.{List, [], _∷_, _++_}
 use Prim.Native.Nat.{ℕ, _+_, _-_, _<_, _≤_}
 use native.Mathlib.Omega.{arith}
@@ -10,10 +11,30 @@ use Rattle.std.specs.shelf.Lists.{All}
 use Rattle.std.proofs.shelf.Elements.{all-getD}
 use Rattle.std.proofs.shelf.Lists.{drop-set-lt, getD-append-left, getD-read, getD-take, length-set}
 use Rattle.rules.specs.Meaning.{Meaning, Lawful}
-use Rattle.rules.specs.Register.{Survey, entries, outcome, entered, row, walk, written, of-effects, met-effects}
-use Rattle.rules.proofs.Registering.{Stands, Answers, Holds, front, long, holds-front, row-step, row-off, row-done, walk-step, walk-off, walk-done, walk-longer}
+use Rattle.rules.specs.Register.{place, Survey, entries, outcome, entered, row, walk, written, of-effects, met-effects}
+use Rattle.rules.proofs.Registering.{place-here, place-past, place-end, Stands, Answers, Holds, front, long, holds-front, row-step, row-off, row-done, walk-step, walk-off, walk-done, walk-longer}
 
 module _ {E : Type 0} (m : Meaning E) (law : Lawful m) where
+  -- ---- looking for an effect, from number i on
+
+  abbrev pub Looks : List E → E → ℕ → Type 0
+  Looks met e i = place (m .same) i (drop i met) e ≡ place (m .same) 0 met e
+
+  module _ (met : List E) (e x : E) (i : ℕ) (r : Bool) (own : All (m .own) met) (o : m .own e) (h : i < length met) (is : x ≡ getD met i x) (told : m .own x → m .own e → r ≡ m .same x e) (at : Looks met e i) where
+    same-is : r ≡ m .same x e
+    same-is = told (subst (m .own) (sym is) (all-getD (m .own) met i x h own)) o
+
+    pub looks-more : r ≡ false → Looks met e (i + 1)
+    looks-more t = sym (place-past (m .same) met i x e h is (sym same-is ∙ t)) ∙ at
+
+    pub looks-here : r ≡ true → Some i ≡ place (m .same) 0 met e
+    looks-here t = sym (place-here (m .same) met i x e h is (sym same-is ∙ t)) ∙ at
+
+  pub looks-end : (met : List E) (e : E) (i : ℕ) → length met ≤ i → Looks met e i → None ≡ place (m .same) 0 met e
+  looks-end met e i h at = sym (place-end (m .same) met i e h) ∙ at
+
+  -- ---- entering effects
+
   -- what the caller of `enter` and `extend` shows
   pub record Ready (xs : List E) (n : ℕ) : Type 0 where
     pub few : n ≤ 64

@@ -6,7 +6,7 @@ ghost use lib.ListN.{length};
 mod list;
 
 #[derive(Drop)]
-pub struct Bounded<T, const N: usize> {
+pub(crate) struct Bounded<T, const N: usize> {
     cells: [T; N],
     len: usize,
     ghost whole: { length cells ≡ N },

@@ -104,20 +104,11 @@ impl EffectSet {
         self.bits.count_ones()
     }
 
-    pub fn is_empty(self) -> bool
+    fn is_empty(self) -> bool
         ensures value { λ r. ⌜ r ≡ eqb (self .bits) 0 ⌝ }
         ensures members { λ r. ⌜ Decides r ((k : ℕ) → has (self .bits) k ≡ false) ⌝ }
     {
         self.bits == 0
-    }
-
-    /// The set as a number: bit `k` is set exactly for a member `k`.
-    pub fn as_number(self) -> u64
-        ensures value { λ r. ⌜ r ≡ self .bits ⌝ }
-        ensures members { λ r. ⌜ ((k : ℕ) → has r k ≡ has (self .bits) k) ⌝ }
-    {
-        let EffectSet { bits } = self;
-        bits
     }
 }
 
@@ -136,38 +127,5 @@ pub impl fmt::Display for EffectSet as EffectSetDisplay {
 
     fn fmt<W: fmt::Write>(&self, f: &mut fmt::Formatter<W>) -> fmt::Result {
         self.bits.fmt(f)
-    }
-}
-
-#[cfg(test)]
-mod tests {
-    use super::*;
-    use std::test::*;
-
-    #[test]
-    fn keeps_members_with_a_place() -> Result<(), Fail> {
-        let set = EffectSet::empty().with(63).with(3).with(64).with(3);
-        check(set.contains(3) && set.contains(63) && !set.contains(64))?;
-        check(set.len() == 2)?;
-        check_eq(set.first(), Some(3))?;
-        check_eq(set.without_first().first(), Some(63))?;
-        check_eq(EffectSet::empty().first(), None)
-    }
-
-    #[test]
-    fn compares() -> Result<(), Fail> {
-        let low = EffectSet::empty().with(0).with(1);
-        let high = EffectSet::empty().with(2);
-        let all = low.union(high);
-        check(all == high.with(1).with(0) && all != high)?;
-        check(low.is_within(all) && !all.is_within(low))?;
-        check(low < high && EffectSet::empty() < low)
-    }
-
-    #[test]
-    fn writes_its_number(rt: LibcRuntime) -> Result<(), Fail> {
-        let set = EffectSet::empty().with(6).with(0);
-        check_eq(set.as_number(), 65)?;
-        check_eq(set.to_string(rt.alloc())?.as_str(), "65")
     }
 }

@@ -46,7 +46,7 @@ pub impl fmt::Display for Refusal as RefusalDisplay {
 }
 
 /// Why a rule was not made.
-#[derive(Clone, Copy, PartialEq, Eq, Debug)]
+#[derive(Clone, Copy)]
 pub enum RuleFault {
     /// The bytes of a chart are not whole records, or too many; with how many whole ones there are.
     ChartLength(usize),
@@ -79,7 +79,7 @@ impl RuleFault {
 }
 
 /// Why a rule's effects were not numbered.
-#[derive(Clone, Copy, PartialEq, Eq, Debug)]
+#[derive(Clone, Copy)]
 pub enum EffectsFault {
     /// There are more than 64 effects.
     TooMany,

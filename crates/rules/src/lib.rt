@@ -1,5 +1,5 @@
 //! Order rules and the effects of command lists.
-pub mod bounded;
+mod bounded;
 pub mod chart;
 pub mod count;
 pub mod effect_set;

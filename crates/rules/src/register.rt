@@ -11,7 +11,7 @@ ghost use Rattle.rules.specs.Register.{place, entered, row, outcome, entries, 
 use crate::rule::OrderRule;
 
 /// How many effects have a number.
-pub const ROOM: usize = 64;
+pub(crate) const ROOM: usize = 64;
 
 /// The number of an effect, if it was met.
 pub(crate) fn find<R: OrderRule>(rule: &R, met: &[R::Effect], e: R::Effect) -> Option<usize>

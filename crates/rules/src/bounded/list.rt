@@ -13,14 +13,14 @@ use crate::bounded::Bounded;
 
 impl<T: Copy, const N: usize> Bounded<T, N> {
     /// No items. The cells hold `fill` until they are used.
-    pub fn empty(fill: T) -> Bounded<T, N>
+    pub(crate) fn empty(fill: T) -> Bounded<T, N>
         ensures { λ r. ⌜ items r ≡ [] ⌝ }
     {
         Bounded { cells: [fill; N], len: 0 }
     }
 
     /// The items of a slice, or `None` where it has more than `N`.
-    pub fn from_slice(list: &[T], fill: T) -> Option<Bounded<T, N>>
+    pub(crate) fn from_slice(list: &[T], fill: T) -> Option<Bounded<T, N>>
         ensures { λ r. ⌜ BySome r (N < length (now (list .entry))) (λ b. items b ≡ now (list .entry)) ⌝ }
     {
         if list.len() > N {
@@ -34,7 +34,7 @@ impl<T: Copy, const N: usize> Bounded<T, N> {
     }
 
     /// Puts one more item at the end: whether there was room for it.
-    pub fn push(&mut self, item: T) -> bool
+    pub(crate) fn push(&mut self, item: T) -> bool
         ensures room { λ r. ⌜ r ≡ ltb (length (items (now (self .entry)))) N ⌝ }
         ensures items { λ _. ⌜ items (now (self .exit)) ≡ cond (ltb (length (items (now (self .entry)))) N) (items (now (self .entry)) ++ item ∷ []) (items (now (self .entry))) ⌝ }
     {
@@ -46,13 +46,13 @@ impl<T: Copy, const N: usize> Bounded<T, N> {
         true
     }
 
-    pub fn len(&self) -> usize
+    pub(crate) fn len(&self) -> usize
         ensures { λ r. ⌜ r ≡ length (items (now (self .entry))) ⌝ }
     {
         self.len
     }
 
-    pub fn get(&self, i: usize) -> Option<T>
+    pub(crate) fn get(&self, i: usize) -> Option<T>
         ensures { λ r. ⌜ r ≡ nth (items (now (self .entry))) i ⌝ }
     {
         if i < self.len { Some(self.cells[i]) } else { None }
