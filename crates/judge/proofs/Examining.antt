@@ -44,8 +44,9 @@ module _ (bytes : List ℕ) (boxes : List ℕ) (finals : List Bool) (boxed : (c 
   automatic = record {
     commands = refl;
     same = λ u v o p. decides-like _ (charts .alike u v o p .0) (charts .alike u v o p .1)
-      (charted-lawful boxes finals boxed .same-is (effect (charted boxes finals) u) (effect (charted boxes finals) v) (own u o) (own v p));
-    breaks = λ w o. ((λ t. charts .forbids w .0 (o, t) .1), (λ never. charts .forbids w .1 (o, never) .1)) }
+        (charted-lawful boxes finals boxed .same-is (effect (charted boxes finals) u) (effect (charted boxes finals) v) (own u o) (own v p));
+    breaks = λ w o. ((λ t. charts .forbids w .0 (o, t) .1), (λ never. charts .forbids w .1 (o, never) .1));
+  }
 
   pub said : (w : List ℕ) (j : Judgement) → Judged (charted boxes finals) w j → Said bytes w j
   said w Permitted h = charts .permits w .0 h
@@ -54,23 +55,26 @@ module _ (bytes : List ℕ) (boxes : List ℕ) (finals : List Bool) (boxed : (c 
 
   pub too-many : (old new : List ℕ) → Exceeds (charted boxes finals) 64 old new → Too-many bytes
   too-many old new over = record {
-      chart = chart;
-      lists = over .lists ++ over .more ∷ [];
-      many = length-push (over .lists) (over .more) ∙ ap (λ n. n + 1) (over .full);
-      own = all-push (Below 16) (over .lists) (over .more) (over .own) (over .more-own);
-      differ = λ i j h l. differ i j h (cases-lt j 64) l }
+    chart = chart;
+    lists = over .lists ++ over .more ∷ [];
+    many = length-push (over .lists) (over .more) ∙ ap (λ n. n + 1) (over .full);
+    own = all-push (Below 16) (over .lists) (over .more) (over .own) (over .more-own);
+    differ = λ i j h l. differ i j h (cases-lt j 64) l;
+  }
     where
       old-at : (i : ℕ) → i < 64 → getD (over .lists ++ over .more ∷ []) i [] ≡ getD (over .lists) i []
       old-at i h = getD-append-left (over .lists) (over .more ∷ []) [] i (omega (arith, over .full))
+
       own-at : (i : ℕ) → i < 64 → Below 16 (getD (over .lists) i [])
       own-at i h = all-getD (Below 16) (over .lists) i [] (omega (arith, over .full)) (over .own)
+
       differ : (i j : ℕ) → i < j → (j < 64) ⊎ (64 ≤ j) → j < 65 → Lead-alike bytes (getD (over .lists ++ over .more ∷ []) i []) (getD (over .lists ++ over .more ∷ []) j []) → ⊥
       differ i j h (inl l) _ same =
-        over .differ i j h l (charts .alike (getD (over .lists) i []) (getD (over .lists) j []) (own-at i (omega arith)) (own-at j l) .1
+          over .differ i j h l (charts .alike (getD (over .lists) i []) (getD (over .lists) j []) (own-at i (omega arith)) (own-at j l) .1
           (subst (λ u. Lead-alike bytes u (getD (over .lists) j [])) (old-at i (omega arith)) (subst (Lead-alike bytes (getD (over .lists ++ over .more ∷ []) i [])) (old-at j l) same)))
       differ i j h (inr l) k same =
-        let e : getD (over .lists ++ over .more ∷ []) j [] ≡ over .more = getD-push (over .lists) (over .more) [] j (let z : length (over .lists) ≡ j = omega (arith, over .full) in z) in
-        over .more-differs i (omega arith) (charts .alike (getD (over .lists) i []) (over .more) (own-at i (omega arith)) (over .more-own) .1
+          let e : getD (over .lists ++ over .more ∷ []) j [] ≡ over .more = getD-push (over .lists) (over .more) [] j (let z : length (over .lists) ≡ j = omega (arith, over .full) in z) in
+          over .more-differs i (omega arith) (charts .alike (getD (over .lists) i []) (over .more) (own-at i (omega arith)) (over .more-own) .1
           (subst (λ u. Lead-alike bytes u (over .more)) (old-at i (omega arith)) (subst (Lead-alike bytes (getD (over .lists ++ over .more ∷ []) i [])) e same)))
 
   -- the table's fault on the way up

@@ -2,7 +2,6 @@
 ghost use mathlib.Core.Path.{_≡_};
 ghost use Rattle.std.specs.declared.option.Option.the-variants.{Some, None};
 ghost use Rattle.judge.specs.Reports.{Reported, held, report-text};
-
 use crate::fault::JudgeFault;
 use crate::fault::JudgeFaultFromEffects;
 use crate::fault::JudgeFaultFromRule;
@@ -47,5 +46,9 @@ pub fn examine(bytes: &[u8], list: Option<&[u8]>) -> Result<Report, JudgeFault>
         Some(commands) => Some(judge(&chart, commands)),
         None => None,
     };
-    Ok(Report { effects: table.effects(), breaking: table.breaking(), judgement })
+    Ok(Report {
+        effects: table.effects(),
+        breaking: table.breaking(),
+        judgement,
+    })
 }

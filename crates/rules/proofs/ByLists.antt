@@ -42,6 +42,7 @@ module _ {A B : Type 0} (f : A → B) (t : Scheme A) (s : Scheme B) (Ok : A → 
       by : (b : Bool) → cond b (complete (map f us ++ f w ∷ [])) (overfull (map f us) (f w)) ≡ mapped f (cond b (complete (us ++ w ∷ [])) (overfull us w))
       by true = ap complete (sym (map-push f us w))
       by false = refl
+
       at : (o : Option ℕ) → entered-at (t .room) (map f us) (f w) o ≡ mapped f (entered-at (t .room) us w o)
       at (Some i) = refl
       at None = ap (λ n. cond (ltb n (t .room)) (complete (map f us ++ f w ∷ [])) (overfull (map f us) (f w))) (length-map us f) ∙ by (ltb (length us) (t .room))
@@ -53,9 +54,9 @@ module _ {A B : Type 0} (f : A → B) (t : Scheme A) (s : Scheme B) (Ok : A → 
   row-image : (n c : ℕ) (us : List A) (w : A) → c + n ≤ t .commands → Ok w → row s n c (map f us) (f w) ≡ mapped f (row t n c us w)
   row-image zero c us w h k = refl
   row-image (suc n) c us w h k =
-    ap (λ x. then-on (entered s (map f us) x) (λ r. row s n (c + 1) r (f w))) (next w c k (omega arith))
-    ∙ ap (λ x. then-on x (λ r. row s n (c + 1) r (f w))) (entered-image us (t .next w c))
-    ∙ on-image (entered t us (t .next w c)) (λ r. row s n (c + 1) r (f w)) (λ r. row t n (c + 1) r w) (λ more _. row-image n (c + 1) more w (omega arith) k)
+      ap (λ x. then-on (entered s (map f us) x) (λ r. row s n (c + 1) r (f w))) (next w c k (omega arith))
+      ∙ ap (λ x. then-on x (λ r. row s n (c + 1) r (f w))) (entered-image us (t .next w c))
+      ∙ on-image (entered t us (t .next w c)) (λ r. row s n (c + 1) r (f w)) (λ r. row t n (c + 1) r w) (λ more _. row-image n (c + 1) more w (omega arith) k)
 
   walk-image : s .commands ≡ t .commands → (n i : ℕ) (us : List A) → All Ok us → walk s n i (map f us) ≡ mapped f (walk t n i us)
   walk-image commands zero i us a = refl
@@ -64,7 +65,7 @@ module _ {A B : Type 0} (f : A → B) (t : Scheme A) (s : Scheme B) (Ok : A → 
       ∙ go (ltb i (length us)) refl (λ more. walk-image commands n (i + 1) more)
     where
       go : (b : Bool) → ltb i (length us) ≡ b → ((more : List A) → All Ok more → walk s n (i + 1) (map f more) ≡ mapped f (walk t n (i + 1) more))
-        → cond b (then-on (row s (s .commands) 0 (map f us) (getD (map f us) i (s .first))) (λ r. walk s n (i + 1) r)) (complete (map f us))
+          → cond b (then-on (row s (s .commands) 0 (map f us) (getD (map f us) i (s .first))) (λ r. walk s n (i + 1) r)) (complete (map f us))
           ≡ mapped f (cond b (then-on (row t (t .commands) 0 us (getD us i (t .first))) (λ r. walk t n (i + 1) r)) (complete us))
       go false e ih = refl
       go true e ih =
@@ -75,14 +76,14 @@ module _ {A B : Type 0} (f : A → B) (t : Scheme A) (s : Scheme B) (Ok : A → 
           ∙ ap (λ k. then-on (row s k 0 (map f us) (f x)) (λ r. walk s n (i + 1) r)) commands
           ∙ ap (λ y. then-on y (λ r. walk s n (i + 1) r)) (row-image (t .commands) 0 us x (omega arith) ok)
           ∙ on-image (row t (t .commands) 0 us x) (λ r. walk s n (i + 1) r) (λ r. walk t n (i + 1) r)
-            (λ more p. ih more (subst (λ y. All Ok (entries y)) p (row-grows t Ok (t .commands) 0 us x (λ c h. ok-next x c ok (omega arith)) .all a)))
+          (λ more p. ih more (subst (λ y. All Ok (entries y)) p (row-grows t Ok (t .commands) 0 us x (λ c h. ok-next x c ok (omega arith)) .all a)))
 
 module _ {E : Type 0} (m : Meaning E) (law : Lawful m) where
   pub met-by-lists : met-effects m ≡ mapped (effect m) (met-lists (behaviour m))
   unfolding met-effects met-lists
   met-by-lists =
-    walk-image (effect m) (of-lists (behaviour m)) (of-effects m) (Below (m .commands)) refl (λ u v. refl) refl tt
-    (λ w c o h. all-push (λ k. k < m .commands) w c o h) (λ w c o h. sym (effect-push m law w c o h)) refl 64 0 ([] ∷ []) (tt, tt)
+      walk-image (effect m) (of-lists (behaviour m)) (of-effects m) (Below (m .commands)) refl (λ u v. refl) refl tt
+      (λ w c o h. all-push (λ k. k < m .commands) w c o h) (λ w c o h. sym (effect-push m law w c o h)) refl 64 0 ([] ∷ []) (tt, tt)
 
   -- ---- a lawful rule behaves lawfully
 
@@ -100,8 +101,8 @@ module _ {E : Type 0} (m : Meaning E) (law : Lawful m) where
     symmetric = λ u v o p e. effect-same v u p o (sym (same-effect u v o p e));
     transitive = λ u v w o p q e f. effect-same u w o q (same-effect u v o p e ∙ same-effect v w p q f);
     joined = λ u v x y o p q r e f.
-      effect-same (u ++ x) (v ++ y) (all-append (λ c. c < m .commands) u x o q) (all-append (λ c. c < m .commands) v y p r)
-      (effect-append m law u x o q ∙ ap₂ (m .join) (same-effect u v o p e) (same-effect x y q r f) ∙ sym (effect-append m law v y p r));
+        effect-same (u ++ x) (v ++ y) (all-append (λ c. c < m .commands) u x o q) (all-append (λ c. c < m .commands) v y p r)
+        (effect-append m law u x o q ∙ ap₂ (m .join) (same-effect u v o p e) (same-effect x y q r f) ∙ sym (effect-append m law v y p r));
     broken = λ u v o p e. ap (m .breaks) (same-effect u v o p e);
   }
 
@@ -125,23 +126,23 @@ module _ {E : Type 0} (m : Meaning E) (law : Lawful m) where
 
     row-is : (u : List ℕ) → Below (m .commands) u → join-row (m .same) (m .join) (map (effect m) ws) (effect m u) ≡ join-row (behaviour m .same) _++_ ws u
     row-is u o =
-      map-map (effect m) (λ y. numbered (m .same) (map (effect m) ws) (m .join (effect m u) y)) ws
-      ∙ map-same (Below (m .commands)) (λ v. numbered (m .same) (map (effect m) ws) (m .join (effect m u) (effect m v))) (λ v. numbered (behaviour m .same) ws (u ++ v)) ws own
+        map-map (effect m) (λ y. numbered (m .same) (map (effect m) ws) (m .join (effect m u) y)) ws
+        ∙ map-same (Below (m .commands)) (λ v. numbered (m .same) (map (effect m) ws) (m .join (effect m u) (effect m v))) (λ v. numbered (behaviour m .same) ws (u ++ v)) ws own
         (λ v p. ap (numbered (m .same) (map (effect m) ws)) (sym (effect-append m law u v o p)) ∙ numbered-image (u ++ v))
 
     pub table-by-lists : effects-table m (map (effect m) ws) ≡ lists-table (behaviour m) ws
     table-by-lists =
-      let n : length (map (effect m) ws) ≡ length ws = length-map ws (effect m) in
-      let ns : map (λ c. numbered (m .same) (map (effect m) ws) (m .command c)) (counting 0 (m .commands)) ≡ map (λ c. numbered (behaviour m .same) ws (c ∷ [])) (counting 0 (m .commands)) =
+        let n : length (map (effect m) ws) ≡ length ws = length-map ws (effect m) in
+        let ns : map (λ c. numbered (m .same) (map (effect m) ws) (m .command c)) (counting 0 (m .commands)) ≡ map (λ c. numbered (behaviour m .same) ws (c ∷ [])) (counting 0 (m .commands)) =
         map-same (λ c. c < m .commands) (λ c. numbered (m .same) (map (effect m) ws) (m .command c)) (λ c. numbered (behaviour m .same) ws (c ∷ [])) (counting 0 (m .commands)) (below-counting 0 (m .commands) (m .commands) (omega arith))
         (λ c h. ap (numbered (m .same) (map (effect m) ws)) (sym (law .right (m .command c) (law .own-command c h))) ∙ numbered-image (c ∷ [])) in
-      let js : map (join-row (m .same) (m .join) (map (effect m) ws)) (map (effect m) ws) ≡ map (join-row (behaviour m .same) _++_ ws) ws =
+        let js : map (join-row (m .same) (m .join) (map (effect m) ws)) (map (effect m) ws) ≡ map (join-row (behaviour m .same) _++_ ws) ws =
         map-map (effect m) (join-row (m .same) (m .join) (map (effect m) ws)) ws
         ∙ map-same (Below (m .commands)) (λ u. join-row (m .same) (m .join) (map (effect m) ws) (effect m u)) (join-row (behaviour m .same) _++_ ws) ws own row-is in
-      let bs : breaking-set (m .breaks) (m .neutral) (map (effect m) ws) ≡ breaking-set (behaviour m .breaks) [] ws =
+        let bs : breaking-set (m .breaks) (m .neutral) (map (effect m) ws) ≡ breaking-set (behaviour m .breaks) [] ws =
         ap (number (λ k. m .breaks (getD (map (effect m) ws) k (m .neutral)))) n
         ∙ number-ext (λ k. m .breaks (getD (map (effect m) ws) k (m .neutral))) (λ k. m .breaks (effect m (getD ws k []))) (length ws) (λ k h. ap (m .breaks) (getD-map (effect m) ws k [] (m .neutral) h)) in
-      ap (λ k. record { commands = m .commands; count = k; numbers = map (λ c. numbered (m .same) (map (effect m) ws) (m .command c)) (counting 0 (m .commands)); joins = map (join-row (m .same) (m .join) (map (effect m) ws)) (map (effect m) ws); breaking = breaking-set (m .breaks) (m .neutral) (map (effect m) ws) }) n
-      ∙ ap (λ k. record { commands = m .commands; count = length ws; numbers = k; joins = map (join-row (m .same) (m .join) (map (effect m) ws)) (map (effect m) ws); breaking = breaking-set (m .breaks) (m .neutral) (map (effect m) ws) }) ns
-      ∙ ap (λ k. record { commands = m .commands; count = length ws; numbers = map (λ c. numbered (behaviour m .same) ws (c ∷ [])) (counting 0 (m .commands)); joins = k; breaking = breaking-set (m .breaks) (m .neutral) (map (effect m) ws) }) js
-      ∙ ap (λ k. record { commands = m .commands; count = length ws; numbers = map (λ c. numbered (behaviour m .same) ws (c ∷ [])) (counting 0 (m .commands)); joins = map (join-row (behaviour m .same) _++_ ws) ws; breaking = k }) bs
+        ap (λ k. record { commands = m .commands; count = k; numbers = map (λ c. numbered (m .same) (map (effect m) ws) (m .command c)) (counting 0 (m .commands)); joins = map (join-row (m .same) (m .join) (map (effect m) ws)) (map (effect m) ws); breaking = breaking-set (m .breaks) (m .neutral) (map (effect m) ws) }) n
+        ∙ ap (λ k. record { commands = m .commands; count = length ws; numbers = k; joins = map (join-row (m .same) (m .join) (map (effect m) ws)) (map (effect m) ws); breaking = breaking-set (m .breaks) (m .neutral) (map (effect m) ws) }) ns
+        ∙ ap (λ k. record { commands = m .commands; count = length ws; numbers = map (λ c. numbered (behaviour m .same) ws (c ∷ [])) (counting 0 (m .commands)); joins = k; breaking = breaking-set (m .breaks) (m .neutral) (map (effect m) ws) }) js
+        ∙ ap (λ k. record { commands = m .commands; count = length ws; numbers = map (λ c. numbered (behaviour m .same) ws (c ∷ [])) (counting 0 (m .commands)); joins = map (join-row (behaviour m .same) _++_ ws) ws; breaking = k }) bs

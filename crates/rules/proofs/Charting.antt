@@ -40,7 +40,7 @@ boxed-more boxes d v l h boxed c k = go (cases-eq c d)
   where
     go : (c ≡ d) ⊎ (c ≡ d → ⊥) → getD (set boxes d (bitOr (getD boxes d 0) v)) c 0 < 2 ^ 64
     go (inl e) = subst (λ j. getD (set boxes d (bitOr (getD boxes d 0) v)) j 0 < 2 ^ 64) (sym e)
-      (subst (λ x. x < 2 ^ 64) (sym (getD-set-same boxes d (bitOr (getD boxes d 0) v) 0 l)) (or-lt 64 (getD boxes d 0) v (subst (λ j. getD boxes j 0 < 2 ^ 64) e (boxed c k)) h))
+        (subst (λ x. x < 2 ^ 64) (sym (getD-set-same boxes d (bitOr (getD boxes d 0) v) 0 l)) (or-lt 64 (getD boxes d 0) v (subst (λ j. getD boxes j 0 < 2 ^ 64) e (boxed c k)) h))
     go (inr n) = subst (λ x. x < 2 ^ 64) (sym (getD-set-other boxes d c (bitOr (getD boxes d 0) v) 0 n)) (boxed c k)
 
 -- what the first i + 1 records name is what the first i do, and the next
@@ -49,63 +49,69 @@ one-more P i (j, h, p) = ⊎-elim (λ l. inl (j, l, p)) (λ l. inr (let e : j �
 
 decides-more : (P : ℕ → Type 0) (i : ℕ) (b t : Bool) → Decides b ((j : ℕ) × (j < i) × P j) → Decides t (P i) → Decides (b || t) ((j : ℕ) × (j < i + 1) × P j)
 decides-more P i b t old new = (
-    (λ e. ⊎-elim (λ x. let w = old .0 x in (w .0, omega (arith, w .1), w .2)) (λ x. (i, omega arith, new .0 x)) (or-cases b t e)),
-    (λ w. ⊎-elim (λ x. or-left b t (old .1 x)) (λ x. or-right b t (new .1 x)) (one-more P i w)))
+  (λ e. ⊎-elim (λ x. let w = old .0 x in (w .0, omega (arith, w .1), w .2)) (λ x. (i, omega arith, new .0 x)) (or-cases b t e)),
+  (λ w. ⊎-elim (λ x. or-left b t (old .1 x)) (λ x. or-right b t (new .1 x)) (one-more P i w)),
+)
 
 decides-none : (P : ℕ → Type 0) (i : ℕ) (b : Bool) → Decides b ((j : ℕ) × (j < i) × P j) → (P i → ⊥) → Decides b ((j : ℕ) × (j < i + 1) × P j)
 decides-none P i b old never = (
-    (λ e. let w = old .0 e in (w .0, omega (arith, w .1), w .2)),
-    (λ w. ⊎-elim (old .1) (λ x. absurd (never x)) (one-more P i w)))
+  (λ e. let w = old .0 e in (w .0, omega (arith, w .1), w .2)),
+  (λ w. ⊎-elim (old .1) (λ x. absurd (never x)) (one-more P i w)),
+)
 
 kinds-differ : (bs : List ℕ) (p c q r : ℕ) → bs ≡ arrow-bytes p c q → bs ≡ final-bytes r → ⊥
 kinds-differ bs p c q r e f = let z : _≡_ {A = ℕ} 0 1 = cc in omega arith
 
 drawn-arrow : (bytes : List ℕ) (i : ℕ) (boxes : List ℕ) (finals : List Bool) (p′ c′ q′ : ℕ) → length boxes ≡ 16 → Arrow-form (record-at bytes i) p′ c′ q′ → Drawn bytes i boxes finals
-  → Drawn bytes (i + 1) (set boxes c′ (bitOr (getD boxes c′ 0) (2 ^ (8 * p′ + q′)))) finals
+    → Drawn bytes (i + 1) (set boxes c′ (bitOr (getD boxes c′ 0) (2 ^ (8 * p′ + q′)))) finals
 drawn-arrow bytes i boxes finals p′ c′ q′ len form drawn = record {
-    arrows = λ p c q hp hc hq. arrows p c q hp hc hq (cases-eq c c′);
-    ends = λ q h. decides-none (λ j. Final-form (record-at bytes j) q) i (getD finals q false) (drawn .ends q h) (λ x. kinds-differ (record-at bytes i) p′ c′ q′ q (form .3) (x .1)) }
+  arrows = λ p c q hp hc hq. arrows p c q hp hc hq (cases-eq c c′);
+  ends = λ q h. decides-none (λ j. Final-form (record-at bytes j) q) i (getD finals q false) (drawn .ends q h) (λ x. kinds-differ (record-at bytes i) p′ c′ q′ q (form .3) (x .1));
+}
   where
     arrows : (p c q : ℕ) → p < 8 → c < 16 → q < 8 → (c ≡ c′) ⊎ (c ≡ c′ → ⊥) → Decides (pairs (getD (set boxes c′ (bitOr (getD boxes c′ 0) (2 ^ (8 * p′ + q′)))) c 0) p q) (Arrow bytes (i + 1) p c q)
     arrows p c q hp hc hq (inr n) =
         decides-at (pairs (getD (set boxes c′ (bitOr (getD boxes c′ 0) (2 ^ (8 * p′ + q′)))) c 0) p q) (pairs (getD boxes c 0) p q)
         (ap (λ b. pairs b p q) (getD-set-other boxes c′ c (bitOr (getD boxes c′ 0) (2 ^ (8 * p′ + q′))) 0 n))
         (decides-none (λ j. Arrow-form (record-at bytes j) p c q) i (pairs (getD boxes c 0) p q) (drawn .arrows p c q hp hc hq)
-          (λ x. n (let e : arrow-bytes p c q ≡ arrow-bytes p′ c′ q′ = sym (x .3) ∙ form .3 in cc)))
+        (λ x. n (let e : arrow-bytes p c q ≡ arrow-bytes p′ c′ q′ = sym (x .3) ∙ form .3 in cc)))
     arrows p c q hp hc hq (inl e) =
         decides-at (pairs (getD (set boxes c′ (bitOr (getD boxes c′ 0) (2 ^ (8 * p′ + q′)))) c 0) p q) (pairs (getD boxes c 0) p q || eqb (8 * p + q) (8 * p′ + q′))
         (ap (λ d. pairs (getD (set boxes c′ (bitOr (getD boxes c′ 0) (2 ^ (8 * p′ + q′)))) d 0) p q) e
-         ∙ ap (λ b. pairs b p q) (getD-set-same boxes c′ (bitOr (getD boxes c′ 0) (2 ^ (8 * p′ + q′))) 0 (omega (arith, form .1)))
-         ∙ has-or (getD boxes c′ 0) (2 ^ (8 * p′ + q′)) (8 * p + q)
-         ∙ ap (λ t. pairs (getD boxes c′ 0) p q || t) (has-pow (8 * p′ + q′) (8 * p + q))
-         ∙ ap (λ d. pairs (getD boxes d 0) p q || eqb (8 * p + q) (8 * p′ + q′)) (sym e))
-        (decides-more (λ j. Arrow-form (record-at bytes j) p c q) i (pairs (getD boxes c 0) p q) (eqb (8 * p + q) (8 * p′ + q′)) (drawn .arrows p c q hp hc hq)
-          ((λ t.
-             let k = eqb-true (8 * p + q) (8 * p′ + q′) t in
-             let ep : p′ ≡ p = omega (arith, form .0, form .2) in
-             let eq : q′ ≡ q = omega (arith, form .0, form .2) in
-             (hp, hc, hq, form .3 ∙ ap (λ x. arrow-bytes x c′ q′) ep ∙ ap (λ x. arrow-bytes p x q′) (sym e) ∙ ap (arrow-bytes p c) eq)),
-           (λ x.
-             let f : arrow-bytes p c q ≡ arrow-bytes p′ c′ q′ = sym (x .3) ∙ form .3 in
-             let ep : p ≡ p′ = cc in
-             let eq : q ≡ q′ = cc in
-             eq-eqb (8 * p + q) (8 * p′ + q′) (omega arith))))
+        ∙ ap (λ b. pairs b p q) (getD-set-same boxes c′ (bitOr (getD boxes c′ 0) (2 ^ (8 * p′ + q′))) 0 (omega (arith, form .1)))
+        ∙ has-or (getD boxes c′ 0) (2 ^ (8 * p′ + q′)) (8 * p + q)
+        ∙ ap (λ t. pairs (getD boxes c′ 0) p q || t) (has-pow (8 * p′ + q′) (8 * p + q))
+        ∙ ap (λ d. pairs (getD boxes d 0) p q || eqb (8 * p + q) (8 * p′ + q′)) (sym e))
+        (decides-more (λ j. Arrow-form (record-at bytes j) p c q) i (pairs (getD boxes c 0) p q) (eqb (8 * p + q) (8 * p′ + q′)) (drawn .arrows p c q hp hc hq) (
+          (λ t.
+              let k = eqb-true (8 * p + q) (8 * p′ + q′) t in
+              let ep : p′ ≡ p = omega (arith, form .0, form .2) in
+              let eq : q′ ≡ q = omega (arith, form .0, form .2) in
+              (hp, hc, hq, form .3 ∙ ap (λ x. arrow-bytes x c′ q′) ep ∙ ap (λ x. arrow-bytes p x q′) (sym e) ∙ ap (arrow-bytes p c) eq)),
+          (λ x.
+              let f : arrow-bytes p c q ≡ arrow-bytes p′ c′ q′ = sym (x .3) ∙ form .3 in
+              let ep : p ≡ p′ = cc in
+              let eq : q ≡ q′ = cc in
+              eq-eqb (8 * p + q) (8 * p′ + q′) (omega arith)),
+        ))
 
 drawn-final : (bytes : List ℕ) (i : ℕ) (boxes : List ℕ) (finals : List Bool) (q′ : ℕ) → length finals ≡ 8 → Final-form (record-at bytes i) q′ → Drawn bytes i boxes finals → Drawn bytes (i + 1) boxes (set finals q′ true)
 drawn-final bytes i boxes finals q′ len form drawn = record {
-    arrows = λ p c q hp hc hq. decides-none (λ j. Arrow-form (record-at bytes j) p c q) i (pairs (getD boxes c 0) p q) (drawn .arrows p c q hp hc hq) (λ x. kinds-differ (record-at bytes i) p c q q′ (x .3) (form .1));
-    ends = λ q h. ends q h (cases-eq q q′) }
+  arrows = λ p c q hp hc hq. decides-none (λ j. Arrow-form (record-at bytes j) p c q) i (pairs (getD boxes c 0) p q) (drawn .arrows p c q hp hc hq) (λ x. kinds-differ (record-at bytes i) p c q q′ (x .3) (form .1));
+  ends = λ q h. ends q h (cases-eq q q′);
+}
   where
     ends : (q : ℕ) → q < 8 → (q ≡ q′) ⊎ (q ≡ q′ → ⊥) → Decides (getD (set finals q′ true) q false) (Final bytes (i + 1) q)
     ends q h (inr n) =
         decides-at (getD (set finals q′ true) q false) (getD finals q false) (getD-set-other finals q′ q true false n)
         (decides-none (λ j. Final-form (record-at bytes j) q) i (getD finals q false) (drawn .ends q h) (λ x. n (let e : final-bytes q ≡ final-bytes q′ = sym (x .1) ∙ form .1 in cc)))
     ends q h (inl e) = (
-        (λ _. (i, omega arith, (h, form .1 ∙ ap final-bytes (sym e)))),
-        (λ _. ap (λ k. getD (set finals q′ true) k false) e ∙ getD-set-same finals q′ true false (omega (arith, form .0))))
+      (λ _. (i, omega arith, (h, form .1 ∙ ap final-bytes (sym e)))),
+      (λ _. ap (λ k. getD (set finals q′ true) k false) e ∙ getD-set-same finals q′ true false (omega (arith, form .0))),
+    )
 
 pub drawn-more : (bytes : List ℕ) (i : ℕ) (boxes : List ℕ) (finals : List Bool) (x : ChartRecord) → length boxes ≡ 16 → length finals ≡ 8 → Reads (record-at bytes i) x → Drawn bytes i boxes finals
-  → Drawn bytes (i + 1) (drawn-boxes x boxes) (drawn-finals x finals)
+    → Drawn bytes (i + 1) (drawn-boxes x boxes) (drawn-finals x finals)
 drawn-more bytes i boxes finals (arrow p c q) lb lf r d = drawn-arrow bytes i boxes finals p c q lb r d
 drawn-more bytes i boxes finals (final q) lb lf r d = drawn-final bytes i boxes finals q lf r d
 
@@ -123,9 +129,9 @@ module _ (bytes : List ℕ) (boxes : List ℕ) (finals : List Bool) (boxed : (c 
   leads-is : (w : List ℕ) → Below 16 w → (p q : ℕ) → p < 8 → q < 8 → Decides (pairs (effect (charted boxes finals) w) p q) (Leads bytes p w q)
   leads-is [] o p q hp hq = decides-at (pairs identity p q) (eqb p q) (pairs-identity p q hp hq) (decides-eqb p q)
   leads-is (c ∷ w) (hc, o) p q hp hq =
-    decides-at (pairs (composed (getD boxes c 0) (effect (charted boxes finals) w)) p q) (through (getD boxes c 0) (effect (charted boxes finals) w) p q)
-    (pairs-composed (getD boxes c 0) (effect (charted boxes finals) w) p q hp hq)
-    (decides-like (through (getD boxes c 0) (effect (charted boxes finals) w) p q)
+      decides-at (pairs (composed (getD boxes c 0) (effect (charted boxes finals) w)) p q) (through (getD boxes c 0) (effect (charted boxes finals) w) p q)
+      (pairs-composed (getD boxes c 0) (effect (charted boxes finals) w) p q hp hq)
+      (decides-like (through (getD boxes c 0) (effect (charted boxes finals) w) p q)
       (λ t. (t .0, drawn .arrows p c (t .0) hp hc (t .1) .0 (t .2), leads-is w o (t .0) q (t .1) hq .0 (t .3)))
       (λ t. let hr = t .1 .2 .2 in (t .0, hr, drawn .arrows p c (t .0) hp hc hr .1 (t .1), leads-is w o (t .0) q hr hq .1 (t .2)))
       (between (getD boxes c 0) (effect (charted boxes finals) w) p q))
@@ -136,18 +142,20 @@ module _ (bytes : List ℕ) (boxes : List ℕ) (finals : List Bool) (boxed : (c 
 
   accepts-is : (w : List ℕ) → Below 16 w → Decides (accepting finals (effect (charted boxes finals) w)) (Accepts bytes w)
   accepts-is w o =
-    let e = effect (charted boxes finals) w in
-    let s = some-is 8 (λ q. getD finals q false && pairs e 0 q) in
-    ((λ t. let x = s .0 t in let y = and-parts (getD finals (x .0) false) (pairs e 0 (x .0)) (x .2) in
-       (x .0, drawn .ends (x .0) (x .1) .0 (y .0), leads-is w o 0 (x .0) (omega arith) (x .1) .0 (y .1))),
-     (λ a. let h = a .1 .2 .0 in s .1 (a .0, h, and-from (getD finals (a .0) false) (pairs e 0 (a .0)) (drawn .ends (a .0) h .1 (a .1)) (leads-is w o 0 (a .0) (omega arith) h .1 (a .2)))))
+      let e = effect (charted boxes finals) w in
+      let s = some-is 8 (λ q. getD finals q false && pairs e 0 q) in (
+        (λ t. let x = s .0 t in let y = and-parts (getD finals (x .0) false) (pairs e 0 (x .0)) (x .2) in
+            (x .0, drawn .ends (x .0) (x .1) .0 (y .0), leads-is w o 0 (x .0) (omega arith) (x .1) .0 (y .1))),
+        (λ a. let h = a .1 .2 .0 in s .1 (a .0, h, and-from (getD finals (a .0) false) (pairs e 0 (a .0)) (drawn .ends (a .0) h .1 (a .1)) (leads-is w o 0 (a .0) (omega arith) h .1 (a .2)))),
+      )
 
   alike : (u v : List ℕ) → Below 16 u → Below 16 v → (effect (charted boxes finals) u ≡ effect (charted boxes finals) v) ↔ Lead-alike bytes u v
   alike u v o r =
-    let own : (w : List ℕ) → Below 16 w → effect (charted boxes finals) w < 2 ^ 64 = effect-own (charted boxes finals) (charted-lawful boxes finals boxed) in
-    ((λ e p q h l. ((λ x. leads-is v r p q h l .0 (ap (λ a. pairs a p q) (sym e) ∙ leads-is u o p q h l .1 x)), (λ x. leads-is u o p q h l .0 (ap (λ a. pairs a p q) e ∙ leads-is v r p q h l .1 x)))),
-     (λ same. box-ext (effect (charted boxes finals) u) (effect (charted boxes finals) v) (own u o) (own v r)
-       (λ p q h l. same-tests _ _ (λ t. leads-is v r p q h l .1 (same p q h l .0 (leads-is u o p q h l .0 t))) (λ t. leads-is u o p q h l .1 (same p q h l .1 (leads-is v r p q h l .0 t))))))
+      let own : (w : List ℕ) → Below 16 w → effect (charted boxes finals) w < 2 ^ 64 = effect-own (charted boxes finals) (charted-lawful boxes finals boxed) in (
+        (λ e p q h l. ((λ x. leads-is v r p q h l .0 (ap (λ a. pairs a p q) (sym e) ∙ leads-is u o p q h l .1 x)), (λ x. leads-is u o p q h l .0 (ap (λ a. pairs a p q) e ∙ leads-is v r p q h l .1 x)))),
+        (λ same. box-ext (effect (charted boxes finals) u) (effect (charted boxes finals) v) (own u o) (own v r)
+            (λ p q h l. same-tests _ _ (λ t. leads-is v r p q h l .1 (same p q h l .0 (leads-is u o p q h l .0 t))) (λ t. leads-is u o p q h l .1 (same p q h l .1 (leads-is v r p q h l .0 t))))),
+      )
 
   pub charts : Charts bytes (charted boxes finals)
   charts = record {
@@ -156,10 +164,13 @@ module _ (bytes : List ℕ) (boxes : List ℕ) (finals : List Bool) (boxed : (c 
     alike = alike;
     permits = λ w. (
       (λ h. accepts-is w (h .0) .0 (not-false (accepting finals (effect (charted boxes finals) w)) (h .1))),
-      (λ a. let o = leads-below w 0 (a .0) (a .2) in (o, not-from-true (accepting finals (effect (charted boxes finals) w)) (accepts-is w o .1 a))));
+      (λ a. let o = leads-below w 0 (a .0) (a .2) in (o, not-from-true (accepting finals (effect (charted boxes finals) w)) (accepts-is w o .1 a))),
+    );
     forbids = λ w. (
       (λ h. (h .0, not-from-decides (accepting finals (effect (charted boxes finals) w)) (accepts-is w (h .0)) (not-true (accepting finals (effect (charted boxes finals) w)) (h .1)))),
-      (λ h. (h .0, decides-not (accepting finals (effect (charted boxes finals) w)) (accepts-is w (h .0)) .1 (h .1)))) }
+      (λ h. (h .0, decides-not (accepting finals (effect (charted boxes finals) w)) (accepts-is w (h .0)) .1 (h .1))),
+    );
+  }
 
 -- ---- the loop that looks for a final state
 
@@ -169,8 +180,8 @@ module _ (finals : List Bool) (a : ℕ) where
 
   pub ends-here : (q : ℕ) → q < 8 → getD finals q false ≡ true → bitAnd (a / 2 ^ q) 1 ≡ 1 → true ≡ accepting finals a
   ends-here q h f t =
-    let bit : pairs a 0 q ≡ true = ap (has a) (zero-add q) ∙ sym (bit-test a q) ∙ eq-eqb (bitAnd (a / 2 ^ q) 1) 1 t in
-    sym (some-is 8 Ends-at .1 (q, h, and-from (getD finals q false) (pairs a 0 q) f bit))
+      let bit : pairs a 0 q ≡ true = ap (has a) (zero-add q) ∙ sym (bit-test a q) ∙ eq-eqb (bitAnd (a / 2 ^ q) 1) 1 t in
+      sym (some-is 8 Ends-at .1 (q, h, and-from (getD finals q false) (pairs a 0 q) f bit))
 
   pub no-bit : (q : ℕ) → (bitAnd (a / 2 ^ q) 1 ≡ 1 → ⊥) → Ends-at q ≡ false
   no-bit q t = and-right (getD finals q false) (pairs a 0 q) (ap (has a) (zero-add q) ∙ sym (bit-test a q) ∙ ne-eqb (bitAnd (a / 2 ^ q) 1) 1 t)

@@ -24,7 +24,9 @@ module _ (m : ℕ) (weights : List ℕ) (mask : ℕ) where
     sums = λ w _. sums w;
     permits = λ w. (
       (λ h. (h .0, ap (has mask) (sym (sums w)) ∙ not-false (has mask (effect (counted m weights mask) w)) (h .1))),
-      (λ h. (h .0, not-from-true (has mask (effect (counted m weights mask) w)) (ap (has mask) (sums w) ∙ h .1)))) }
+      (λ h. (h .0, not-from-true (has mask (effect (counted m weights mask) w)) (ap (has mask) (sums w) ∙ h .1))),
+    );
+  }
 
 high-bit : (m mask k : ℕ) → m ≤ k → has mask k ≡ has (mask / 2 ^ m) (k - m)
 high-bit m mask k h = let e : k ≡ m + (k - m) = omega arith in ap (has mask) e ∙ sym (has-shr mask m (k - m))

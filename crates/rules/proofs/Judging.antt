@@ -35,13 +35,14 @@ module _ {E : Type 0} (m : Meaning E) (law : Lawful m) where
 
   pub walked-more : (w : List ℕ) (i : ℕ) (e x r : E) → i < length w → Walked w i e → (getD w i 0 < m .commands) × (x ≡ m .command (getD w i 0)) → (m .own e → m .own x → r ≡ m .join e x) → Walked w (i + 1) r
   walked-more w i e x r h k (lt, is) joins =
-    let t = take-more w i 0 h in
-    let own-x : m .own x = subst (m .own) (sym is) (law .own-command (getD w i 0) lt) in
-    (subst (Below (m .commands)) (sym t) (all-push (λ c. c < m .commands) (take i w) (getD w i 0) (k .0) lt),
-     joins (walked-own w i e k) own-x ∙ ap (m .join e) is ∙ ap (λ y. m .join y (m .command (getD w i 0))) (k .1)
-     ∙ sym (effect-push m law (take i w) (getD w i 0) (k .0) lt) ∙ ap (effect m) (sym t))
+      let t = take-more w i 0 h in
+      let own-x : m .own x = subst (m .own) (sym is) (law .own-command (getD w i 0) lt) in (
+        subst (Below (m .commands)) (sym t) (all-push (λ c. c < m .commands) (take i w) (getD w i 0) (k .0) lt),
+        joins (walked-own w i e k) own-x ∙ ap (m .join e) is ∙ ap (λ y. m .join y (m .command (getD w i 0))) (k .1)
+            ∙ sym (effect-push m law (take i w) (getD w i 0) (k .0) lt) ∙ ap (effect m) (sym t),
+      )
 
   pub walked-all : (w : List ℕ) (i : ℕ) (e : E) (r b : Bool) → length w ≤ i → Walked w i e → (m .own e → r ≡ m .breaks e) → r ≡ b → Below (m .commands) w × (m .breaks (effect m w) ≡ b)
   walked-all w i e r b h k broken is =
-    let t = take-all i w h in
-    (subst (Below (m .commands)) t (k .0), ap (m .breaks) (ap (effect m) (sym t) ∙ sym (k .1)) ∙ sym (broken (walked-own w i e k)) ∙ is)
+      let t = take-all i w h in
+      (subst (Below (m .commands)) t (k .0), ap (m .breaks) (ap (effect m) (sym t) ∙ sym (k .1)) ∙ sym (broken (walked-own w i e k)) ∙ is)

@@ -109,8 +109,14 @@ module _ (b : Behaviour) (law : LawfulBehaviour b) where
 
     state-known : Known reg (length reg) new → State i (c + 1) reg
     state-known k = record {
-        some = s .some; few = s .few; own = s .own; first = s .first; apart = s .apart; order = s .order;
-        closed = λ j e h l p. go j e h l (before-more j e i c p) }
+      some = s .some;
+      few = s .few;
+      own = s .own;
+      first = s .first;
+      apart = s .apart;
+      order = s .order;
+      closed = λ j e h l p. go j e h l (before-more j e i c p);
+    }
       where
         go : (j e : ℕ) → j < length reg → e < b .commands → Before j e i c ⊎ ((j ≡ i) × (e ≡ c)) → Known reg (length reg) (getD reg j [] ++ e ∷ [])
         go j e h l (inl p) = s .closed j e h l p
@@ -130,48 +136,65 @@ module _ (b : Behaviour) (law : LawfulBehaviour b) where
       last = getD-push reg new [] (length reg) refl
 
       known-later : (n k : ℕ) (j e : ℕ) → n ≤ length reg → n ≤ k → j < length reg → Known reg n (getD reg j [] ++ e ∷ []) → Known more k (getD more j [] ++ e ∷ [])
-      known-later n k j e h g l (x, lx, t) = (x, omega arith,
+      known-later n k j e h g l (x, lx, t) = (
+        x,
+        omega arith,
         subst (λ u. b .same (getD more x []) (u ++ e ∷ []) ≡ true) (sym (old j l))
-        (subst (λ u. b .same u (getD reg j [] ++ e ∷ []) ≡ true) (sym (old x (omega arith))) t))
+            (subst (λ u. b .same u (getD reg j [] ++ e ∷ []) ≡ true) (sym (old x (omega arith))) t),
+      )
 
       met-later : (n : ℕ) → n < length reg → Met reg n → Met more n
       met-later n h m = record {
-        after = m .after; by = m .by; earlier = m .earlier; command = m .command;
+        after = m .after;
+        by = m .by;
+        earlier = m .earlier;
+        command = m .command;
         is = old n h ∙ m .is ∙ ap (λ u. u ++ m .by ∷ []) (sym (old (m .after) (omega (arith, m .earlier))));
-        before = λ j e l p. known-later n n j e (omega arith) (omega arith) (omega (arith, before-le j e (m .after) (m .by) p, m .earlier)) (m .before j e l p) }
+        before = λ j e l p. known-later n n j e (omega arith) (omega arith) (omega (arith, before-le j e (m .after) (m .by) p, m .earlier)) (m .before j e l p);
+      }
 
       met-new : Met more (length reg)
       met-new = record {
-        after = i; by = c; earlier = here; command = lt;
+        after = i;
+        by = c;
+        earlier = here;
+        command = lt;
         is = last ∙ ap (λ u. u ++ c ∷ []) (sym (old i here));
-        before = λ j e l p. let lj : j < length reg = omega (arith, before-le j e i c p) in known-later (length reg) (length reg) j e (omega arith) (omega arith) lj (s .closed j e lj l p) }
+        before = λ j e l p. let lj : j < length reg = omega (arith, before-le j e i c p) in known-later (length reg) (length reg) j e (omega arith) (omega arith) lj (s .closed j e lj l p);
+      }
 
       state-new : State i (c + 1) more
       state-new = record {
-          some = omega (arith, size);
-          few = omega (arith, size);
-          own = all-push (Below (b .commands)) reg new (s .own) new-own;
-          first = old 0 (s .some) ∙ s .first;
-          apart = λ k l h g. apart k l h (cases-lt l (length reg)) g;
-          closed = λ j e h l p. closed j e l (before-more j e i c p);
-          order = λ n h g. order n h (cases-lt n (length reg)) g }
+        some = omega (arith, size);
+        few = omega (arith, size);
+        own = all-push (Below (b .commands)) reg new (s .own) new-own;
+        first = old 0 (s .some) ∙ s .first;
+        apart = λ k l h g. apart k l h (cases-lt l (length reg)) g;
+        closed = λ j e h l p. closed j e l (before-more j e i c p);
+        order = λ n h g. order n h (cases-lt n (length reg)) g;
+      }
         where
           apart : (k l : ℕ) → k < l → (l < length reg) ⊎ (length reg ≤ l) → l < length more
-            → b .same (getD more k []) (getD more l []) ≡ false
+              → b .same (getD more k []) (getD more l []) ≡ false
           apart k l h (inl g) _ = ap (λ u. b .same u (getD more l [])) (old k (omega arith)) ∙ ap (b .same (getD reg k [])) (old l g) ∙ s .apart k l h g
           apart k l h (inr g) q =
-            let e : length reg ≡ l = omega (arith, size) in
-            subst (λ x. b .same (getD more k []) (getD more x []) ≡ false) e
-            (ap (b .same (getD more k [])) last ∙ ap (λ u. b .same u new) (old k (omega arith)) ∙ missing k (omega arith))
+              let e : length reg ≡ l = omega (arith, size) in
+              subst (λ x. b .same (getD more k []) (getD more x []) ≡ false) e
+              (ap (b .same (getD more k [])) last ∙ ap (λ u. b .same u new) (old k (omega arith)) ∙ missing k (omega arith))
+
           closed : (j e : ℕ) → e < b .commands → Before j e i c ⊎ ((j ≡ i) × (e ≡ c)) → Known more (length more) (getD more j [] ++ e ∷ [])
           closed j e l (inl p) = let lj : j < length reg = omega (arith, before-le j e i c p) in
-            known-later (length reg) (length more) j e (omega arith) (omega (arith, size)) lj (s .closed j e lj l p)
-          closed j e l (inr (p, q)) = (length reg, omega (arith, size),
+              known-later (length reg) (length more) j e (omega arith) (omega (arith, size)) lj (s .closed j e lj l p)
+          closed j e l (inr (p, q)) = (
+            length reg,
+            omega (arith, size),
             ap (λ u. b .same u (getD more j [] ++ e ∷ [])) last
-            ∙ ap (λ x. b .same new (getD more x [] ++ e ∷ [])) p
-            ∙ ap (λ u. b .same new (u ++ e ∷ [])) (old i here)
-            ∙ ap (λ x. b .same new (getD reg i [] ++ x ∷ [])) q
-            ∙ law .reflexive new new-own)
+                ∙ ap (λ x. b .same new (getD more x [] ++ e ∷ [])) p
+                ∙ ap (λ u. b .same new (u ++ e ∷ [])) (old i here)
+                ∙ ap (λ x. b .same new (getD reg i [] ++ x ∷ [])) q
+                ∙ law .reflexive new new-own,
+          )
+
           order : (n : ℕ) → 0 < n → (n < length reg) ⊎ (length reg ≤ n) → n < length more → Met more n
           order n h (inl g) _ = met-later n g (s .order n h g)
           order n h (inr g) q = let e : length reg ≡ n = omega (arith, size) in subst (Met more) e met-new
@@ -192,7 +215,7 @@ module _ (b : Behaviour) (law : LawfulBehaviour b) where
   Comes reg Q (overfull full w) = Overfull full w
 
   comes-on : (reg : List (List ℕ)) (Q R : List (List ℕ) → Type 0) (x : Survey (List ℕ)) (f : List (List ℕ) → Survey (List ℕ))
-    → Comes reg Q x → ((more : List (List ℕ)) → Longer reg more → Q more → Comes more R (f more)) → Comes reg R (then-on x f)
+      → Comes reg Q x → ((more : List (List ℕ)) → Longer reg more → Q more → Comes more R (f more)) → Comes reg R (then-on x f)
   comes-on reg Q R (overfull full w) f p g = p
   comes-on reg Q R (complete more) f (l, q) g = far (f more) (g more l q)
     where
@@ -205,10 +228,12 @@ module _ (b : Behaviour) (law : LawfulBehaviour b) where
     where
       full : Missing (b .same) [] reg (getD reg i [] ++ c ∷ []) → 64 ≤ length reg → Overfull reg (getD reg i [] ++ c ∷ [])
       full m h = record { size = omega (arith, s .few); own = s .own; apart = s .apart; more-own = new-own i c reg here lt s; missing = m }
+
       by : (t : Bool) → ltb (length reg) 64 ≡ t → Missing (b .same) [] reg (getD reg i [] ++ c ∷ []) → Comes reg (State i (c + 1)) (cond t (complete (reg ++ (getD reg i [] ++ c ∷ []) ∷ [])) (overfull reg (getD reg i [] ++ c ∷ [])))
       by true e m = let h = ltb-true (length reg) 64 e in
-        (record { longer = omega (arith, length-push reg (getD reg i [] ++ c ∷ [])); old = old i c reg here lt s m h }, state-new i c reg here lt s m h)
+          (record { longer = omega (arith, length-push reg (getD reg i [] ++ c ∷ [])); old = old i c reg here lt s m h }, state-new i c reg here lt s m h)
       by false e m = full m (ltb-false (length reg) 64 e)
+
       go : (o : Option ℕ) → Placed (b .same) [] 0 reg (getD reg i [] ++ c ∷ []) o → Comes reg (State i (c + 1)) (entered-at 64 reg (getD reg i [] ++ c ∷ []) o)
       go (Some k) (j, (e, f)) = (longer-not reg, state-known i c reg here lt s (j, f .below, f .alike))
       go None m = by (ltb (length reg) 64) refl m
@@ -216,14 +241,20 @@ module _ (b : Behaviour) (law : LawfulBehaviour b) where
   rows : (n i c : ℕ) (reg : List (List ℕ)) (w : List ℕ) → c + n ≡ b .commands → i < length reg → w ≡ getD reg i [] → State i c reg → Comes reg (State i (b .commands)) (row (of-lists b) n c reg w)
   rows zero i c reg w h here is s = (longer-not reg, let e : c ≡ b .commands = omega arith in subst (λ k. State i k reg) e s)
   rows (suc n) i c reg w h here is s =
-    comes-on reg (State i (c + 1)) (State i (b .commands)) (entered (of-lists b) reg (w ++ c ∷ [])) (λ more. row (of-lists b) n (c + 1) more w)
-    (subst (λ u. Comes reg (State i (c + 1)) (entered (of-lists b) reg (u ++ c ∷ []))) (sym is) (enters i c reg here (omega arith) s))
-    (λ more l q. rows n i (c + 1) more w (omega arith) (omega (arith, l .longer)) (is ∙ sym (l .old i here)) q)
+      comes-on reg (State i (c + 1)) (State i (b .commands)) (entered (of-lists b) reg (w ++ c ∷ [])) (λ more. row (of-lists b) n (c + 1) more w)
+      (subst (λ u. Comes reg (State i (c + 1)) (entered (of-lists b) reg (u ++ c ∷ []))) (sym is) (enters i c reg here (omega arith) s))
+      (λ more l q. rows n i (c + 1) more w (omega arith) (omega (arith, l .longer)) (is ∙ sym (l .old i here)) q)
 
   next-state : (i : ℕ) (reg : List (List ℕ)) → State i (b .commands) reg → State (i + 1) 0 reg
   next-state i reg s = record {
-    some = s .some; few = s .few; own = s .own; first = s .first; apart = s .apart; order = s .order;
-    closed = λ j e h l p. s .closed j e h l (before-next j e i l p) }
+    some = s .some;
+    few = s .few;
+    own = s .own;
+    first = s .first;
+    apart = s .apart;
+    order = s .order;
+    closed = λ j e h l p. s .closed j e h l (before-next j e i l p);
+  }
 
   -- all commands after all of the lists were looked at
   abbrev pub Closed : List (List ℕ) → Type 0
@@ -231,27 +262,37 @@ module _ (b : Behaviour) (law : LawfulBehaviour b) where
 
   closed-from : (i : ℕ) (reg : List (List ℕ)) → length reg ≤ i → State i 0 reg → Closed reg
   closed-from i reg h s = record {
-    some = s .some; few = s .few; own = s .own; first = s .first; apart = s .apart; order = s .order;
-    closed = λ j e l k _. s .closed j e l k (inl (omega arith)) }
+    some = s .some;
+    few = s .few;
+    own = s .own;
+    first = s .first;
+    apart = s .apart;
+    order = s .order;
+    closed = λ j e l k _. s .closed j e l k (inl (omega arith));
+  }
 
   walks : (n i : ℕ) (reg : List (List ℕ)) → 64 ≤ i + n → State i 0 reg → Comes reg Closed (walk (of-lists b) n i reg)
   walks zero i reg h s = (longer-not reg, closed-from i reg (omega (arith, s .few)) s)
   walks (suc n) i reg h s = go (ltb i (length reg)) refl (λ more. walks n (i + 1) more)
     where
       go : (t : Bool) → ltb i (length reg) ≡ t → ((more : List (List ℕ)) → 64 ≤ i + 1 + n → State (i + 1) 0 more → Comes more Closed (walk (of-lists b) n (i + 1) more))
-        → Comes reg Closed (cond t (then-on (row (of-lists b) (b .commands) 0 reg (getD reg i [])) (λ more. walk (of-lists b) n (i + 1) more)) (complete reg))
+          → Comes reg Closed (cond t (then-on (row (of-lists b) (b .commands) 0 reg (getD reg i [])) (λ more. walk (of-lists b) n (i + 1) more)) (complete reg))
       go false e ih = (longer-not reg, closed-from i reg (ltb-false i (length reg) e) s)
       go true e ih =
-        comes-on reg (State i (b .commands)) Closed (row (of-lists b) (b .commands) 0 reg (getD reg i [])) (λ more. walk (of-lists b) n (i + 1) more)
-        (rows (b .commands) i 0 reg (getD reg i []) (omega arith) (ltb-true i (length reg) e) refl s)
-        (λ more l q. ih more (omega arith) (next-state i more q))
+          comes-on reg (State i (b .commands)) Closed (row (of-lists b) (b .commands) 0 reg (getD reg i [])) (λ more. walk (of-lists b) n (i + 1) more)
+          (rows (b .commands) i 0 reg (getD reg i []) (omega arith) (ltb-true i (length reg) e) refl s)
+          (λ more l q. ih more (omega arith) (next-state i more q))
 
   start : State 0 0 ([] ∷ [])
   start = record {
-    some = omega arith; few = omega arith; own = (tt, tt); first = refl;
+    some = omega arith;
+    few = omega arith;
+    own = (tt, tt);
+    first = refl;
     apart = λ k l h g. absurd (omega arith);
     closed = λ j e h l p. absurd (none j e p);
-    order = λ n h g. absurd (omega arith) }
+    order = λ n h g. absurd (omega arith);
+  }
     where
       none : (j e : ℕ) → Before j e 0 0 → ⊥
       none j e (inl h) = omega arith

@@ -32,12 +32,22 @@ module _ {A B : Type 0} (a : Meaning A) (b : Meaning B) where
   permits-both = record {
     permitted = λ w. (
       (λ h. let p = or-parts (a .breaks (effect a w)) (b .breaks (effect b w)) (sym (breaks-either w) ∙ h .1) in
-        ((left-below w (h .0), p .0), (right-below w (h .0), p .1))),
-      (λ h. (below-both (a .commands) (b .commands) w (h .0 .0) (h .1 .0),
-        breaks-either w ∙ or-from (a .breaks (effect a w)) (b .breaks (effect b w)) (h .0 .1) (h .1 .1))));
+          ((left-below w (h .0), p .0), (right-below w (h .0), p .1))),
+      (λ h. (
+        below-both (a .commands) (b .commands) w (h .0 .0) (h .1 .0),
+        breaks-either w ∙ or-from (a .breaks (effect a w)) (b .breaks (effect b w)) (h .0 .1) (h .1 .1),
+      )),
+    );
     forbidden = λ w. (
-      (λ h. (left-below w (h .0), right-below w (h .0),
+      (λ h. (
+        left-below w (h .0),
+        right-below w (h .0),
         ⊎-elim (λ p. inl (left-below w (h .0), p)) (λ p. inr (right-below w (h .0), p))
-        (or-cases (a .breaks (effect a w)) (b .breaks (effect b w)) (sym (breaks-either w) ∙ h .1)))),
-      (λ h. (below-both (a .commands) (b .commands) w (h .0) (h .1),
-        breaks-either w ∙ ⊎-elim (λ (p : Forbidden a w). or-left (a .breaks (effect a w)) (b .breaks (effect b w)) (p .1)) (λ (p : Forbidden b w). or-right (a .breaks (effect a w)) (b .breaks (effect b w)) (p .1)) (h .2)))) }
+            (or-cases (a .breaks (effect a w)) (b .breaks (effect b w)) (sym (breaks-either w) ∙ h .1)),
+      )),
+      (λ h. (
+        below-both (a .commands) (b .commands) w (h .0) (h .1),
+        breaks-either w ∙ ⊎-elim (λ (p : Forbidden a w). or-left (a .breaks (effect a w)) (b .breaks (effect b w)) (p .1)) (λ (p : Forbidden b w). or-right (a .breaks (effect a w)) (b .breaks (effect b w)) (p .1)) (h .2),
+      )),
+    );
+  }

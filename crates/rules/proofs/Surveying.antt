@@ -53,7 +53,8 @@ module _ {E : Type 0} (m : Meaning E) (law : Lawful m) where
   ready old new n rest whole r at = record {
     few = at .holds .few;
     room = omega (arith, long (m .own) 64 old new (at .reg) n r (at .holds));
-    met = subst (All (m .own)) (sym (front (m .own) 64 old new (at .reg) n (at .holds))) (at .holds .all) }
+    met = subst (All (m .own)) (sym (front (m .own) 64 old new (at .reg) n (at .holds))) (at .holds .all);
+  }
 
   pub next-own : (e : E) → m .own e → (k : ℕ) → k < m .commands → m .own (m .join e (m .command k))
   next-own e o k h = law .own-join e (m .command k) o (law .own-command k h)
@@ -62,19 +63,33 @@ module _ {E : Type 0} (m : Meaning E) (law : Lawful m) where
   rows-start xs n from r = record {
     reg = take n xs;
     holds = holds-front (m .own) 64 xs n (r .few) (r .room) (r .met);
-    gives = let e : m .commands - 0 ≡ m .commands = omega arith in ap (λ k. row (of-effects m) k 0 (take n xs) from) e }
+    gives = let e : m .commands - 0 ≡ m .commands = omega arith in ap (λ k. row (of-effects m) k 0 (take n xs) from) e;
+  }
 
-  module _ (old xs new : List E) (n c : ℕ) (from to : E) (whole : Survey E) (room : 64 ≤ length old) (lt : c < m .commands) (own : m .own from) (is : to ≡ m .join from (m .command c)) (at : Rows old xs n c from whole) where
+  -- `to` is what the command c leads to from an effect of the rule's own
+  pub record Onward (from : E) (c : ℕ) (to : E) : Type 0 where
+    pub known : c < m .commands
+    pub from-own : m .own from
+    pub is : to ≡ m .join from (m .command c)
+    pub own : m .own to
+
+  pub onward : (from : E) (c : ℕ) (x to : E) → m .own from → (c < m .commands) × (x ≡ m .command c) → (m .own from → m .own x → to ≡ m .join from x) → Onward from c to
+  onward from c x to o (lt, e) joins =
+      let own-x : m .own x = subst (m .own) (sym e) (law .own-command c lt) in
+      let is : to ≡ m .join from (m .command c) = joins o own-x ∙ ap (m .join from) e in
+      record { known = lt; from-own = o; is = is; own = subst (m .own) (sym is) (next-own from o c lt) }
+
+  module _ (old xs new : List E) (n c : ℕ) (from to : E) (whole : Survey E) (room : 64 ≤ length old) (step : Onward from c to) (at : Rows old xs n c from whole) where
     same-step : entered (of-effects m) (take n xs) to ≡ entered (of-effects m) (at .reg) (m .join from (m .command c))
-    same-step = ap (λ l. entered (of-effects m) l to) (front (m .own) 64 old xs (at .reg) n (at .holds)) ∙ ap (entered (of-effects m) (at .reg)) is
+    same-step = ap (λ l. entered (of-effects m) l to) (front (m .own) 64 old xs (at .reg) n (at .holds)) ∙ ap (entered (of-effects m) (at .reg)) (step .is)
 
     pub rows-more : (k : ℕ) → Some k ≡ outcome (entered (of-effects m) (take n xs) to) → new ≡ written (entries (entered (of-effects m) (take n xs) to)) xs → Rows old new k (c + 1) from whole
-    rows-more k r w = row-step (of-effects m) (m .own) old xs new n whole room (m .commands) c from lt (next-own from own c lt) at k
-      (r ∙ ap outcome same-step) (w ∙ ap (λ x. written (entries x) xs) same-step)
+    rows-more k r w = row-step (of-effects m) (m .own) old xs new n whole room (m .commands) c from (step .known) (next-own from (step .from-own) c (step .known)) at k
+        (r ∙ ap outcome same-step) (w ∙ ap (λ x. written (entries x) xs) same-step)
 
     pub rows-off : None ≡ outcome (entered (of-effects m) (take n xs) to) → new ≡ written (entries (entered (of-effects m) (take n xs) to)) xs → Answers (of-effects m) old whole new None
-    rows-off r w = row-off (of-effects m) (m .own) old xs new n whole room (m .commands) c from lt (next-own from own c lt) at
-      (r ∙ ap outcome same-step) (w ∙ ap (λ x. written (entries x) xs) same-step)
+    rows-off r w = row-off (of-effects m) (m .own) old xs new n whole room (m .commands) c from (step .known) (next-own from (step .from-own) c (step .known)) at
+        (r ∙ ap outcome same-step) (w ∙ ap (λ x. written (entries x) xs) same-step)
 
   pub rows-end : (old new : List E) (n c : ℕ) (from : E) (whole : Survey E) → m .commands ≤ c → Rows old new n c from whole → Answers (of-effects m) old whole new (Some n)
   rows-end old new n c from whole h at = row-done (of-effects m) (m .own) old new n whole (m .commands) c from h at
@@ -85,21 +100,22 @@ module _ {E : Type 0} (m : Meaning E) (law : Lawful m) where
   walks-start (x ∷ xs) v room is = record {
     reg = v ∷ [];
     holds = record { count = refl; few = omega arith; is = refl; all = (subst (m .own) (sym is) (law .own-neutral), tt) };
-    gives = ap (λ y. walk (of-effects m) 64 0 (y ∷ [])) is }
+    gives = ap (λ y. walk (of-effects m) 64 0 (y ∷ [])) is;
+  }
 
   -- at the end of the loop, of the slice as it was handed over
   pub past-first : (xs new : List E) (v : E) (r : Option ℕ) → Answers (of-effects m) (set xs 0 v) (met-effects m) new r → Answers (of-effects m) xs (met-effects m) new r
   unfolding met-effects
   past-first xs new v r (p, q) =
-    let reg = entries (met-effects m) in
-    let some : 1 ≤ length reg = walk-longer (of-effects m) 64 0 (m .neutral ∷ []) in
-    (p, q ∙ ap (λ l. reg ++ l) (drop-set-lt (length reg) xs 0 v (omega arith)))
+      let reg = entries (met-effects m) in
+      let some : 1 ≤ length reg = walk-longer (of-effects m) 64 0 (m .neutral ∷ []) in
+      (p, q ∙ ap (λ l. reg ++ l) (drop-set-lt (length reg) xs 0 v (omega arith)))
 
   module _ (old xs new : List E) (n i : ℕ) (from : E) (whole : Survey E) (room : 64 ≤ length old) (lt : i < n) (is : from ≡ getD xs i from) (at : Walks old xs n i whole) where
     here : from ≡ getD (at .reg) i (m .neutral)
     here =
-      getD-read xs i from (omega (arith, long (m .own) 64 old xs (at .reg) n room (at .holds), at .holds .few)) is (m .neutral)
-      ∙ sym (getD-take n xs i (m .neutral) lt) ∙ ap (λ l. getD l i (m .neutral)) (front (m .own) 64 old xs (at .reg) n (at .holds))
+        getD-read xs i from (omega (arith, long (m .own) 64 old xs (at .reg) n room (at .holds), at .holds .few)) is (m .neutral)
+        ∙ sym (getD-take n xs i (m .neutral) lt) ∙ ap (λ l. getD l i (m .neutral)) (front (m .own) 64 old xs (at .reg) n (at .holds))
 
     pub walks-own : m .own from
     walks-own = subst (m .own) (sym here) (all-getD (m .own) (at .reg) i (m .neutral) (omega (arith, at .holds .count)) (at .holds .all))
@@ -116,5 +132,5 @@ module _ {E : Type 0} (m : Meaning E) (law : Lawful m) where
   pub walks-end : (old new : List E) (n i : ℕ) (whole : Survey E) → n ≤ i → Walks old new n i whole → Answers (of-effects m) old whole new (Some n)
   walks-end old new n i whole h at = walk-done (of-effects m) (m .own) old new n i whole h at
 
-  pub room-kept : (xs : List E) (v : E) → 64 ≤ length xs → 64 ≤ length (set xs 0 v)
-  room-kept xs v h = omega (arith, length-set xs 0 v)
+pub room-kept : {E : Type 0} (xs : List E) (v : E) → 64 ≤ length xs → 64 ≤ length (set xs 0 v)
+room-kept xs v h = omega (arith, length-set xs 0 v)

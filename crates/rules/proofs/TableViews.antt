@@ -13,7 +13,7 @@ use Rattle.std.specs.declared.option.Option.the-variants.{Some, None}
 use Rattle.std.specs.declared.result.Result.the-variants.{Ok, Err}
 use Rattle.std.specs.shelf.Maps.{nth}
 use Rattle.std.proofs.shelf.Counted.{length-map-counting}
-use Rattle.std.proofs.shelf.Lists.{getD-map, getD-take, length-map, length-take-le, take-at}
+use Rattle.std.proofs.shelf.Lists.{getD-map, getD-take, length-map, length-take, length-take-le, take-at}
 use Rattle.std.proofs.shelf.Maps.{nth-getD, nth-past}
 use Rattle.std.proofs.shelf.Tests.{and-from, cases-lt, cond-false, cond-true, le-ltb, lt-ltb}
 use Rattle.rules.specs.declared.bounded.Bounded.{Bounded}
@@ -44,7 +44,7 @@ command-is t ns c n e =
     (cases-lt c (length ns))
 
 pub join-is : (count : ℕ) (ns : Bounded ℕ 16) (joins : List (List ℕ)) (s : EffectSet) (i j : ℕ) → count ≤ length joins → i < count → j < count
-  → Some (getD (getD joins i []) j 0) ≡ table-join (table-from count ns joins s) i j
+    → Some (getD (getD joins i []) j 0) ≡ table-join (table-from count ns joins s) i j
 join-is count ns joins s i j l hi hj =
     let t = table-from count ns joins s in
     let n : length (take count joins) ≡ count = length-take-le count joins l in
@@ -55,8 +55,8 @@ join-is count ns joins s i j l hi hj =
 -- ---- making
 
 pub view-is : {E : Type 0} (m : Meaning E) (met : List E) (count : ℕ) (ns : Bounded ℕ 16) (joins : List (List ℕ)) (s : EffectSet) → count ≡ length met
-  → items ns ≡ effects-table m met .numbers → map (take (length met)) (take (length met) joins) ≡ effects-table m met .joins → s .bits ≡ effects-table m met .breaking
-  → table-from count ns joins s ≡ effects-table m met
+    → items ns ≡ effects-table m met .numbers → map (take (length met)) (take (length met) joins) ≡ effects-table m met .joins → s .bits ≡ effects-table m met .breaking
+    → table-from count ns joins s ≡ effects-table m met
 view-is m met count ns joins s n e f g =
     let k : length (items ns) ≡ m .commands = ap length e ∙ length-map-counting (λ c. numbered (m .same) met (m .command c)) 0 (m .commands) in
     let j : map (take count) (take count joins) ≡ effects-table m met .joins = ap (λ x. map (take x) (take x joins)) n ∙ f in
@@ -73,6 +73,17 @@ complete-from f (overfull ws w) n p = let z : _≡_ {A = ℕ} 0 1 = cc in absurd
 overfull-from : {A B : Type 0} (f : A → B) (x : Survey A) → None ≡ outcome (mapped f x) → (ws : List A) × ((w : A) × (x ≡ overfull ws w))
 overfull-from f (complete ws) p = let z : _≡_ {A = ℕ} 0 1 = cc in absurd (omega arith)
 overfull-from f (overfull ws w) p = (ws, (w, refl))
+
+-- what holds of a slice whose first n entries are all effects, and of the table that is made of them
+pub record Counted {E : Type 0} (m : Meaning E) (old new : List E) (n : ℕ) : Type 0 where
+  pub fits : n ≤ length new
+  pub few : n ≤ 64
+  pub part : All-met m (take (n - 0) new)
+  pub count : n ≡ length (take (n - 0) new)
+  pub some : Numbers-some (effects-table m (take (n - 0) new))
+  pub answer : Ok (effects-table m (take (n - 0) new)) ≡ tabled (behaviour m) (length old)
+  pub slice : new ≡ slice-after m old
+  pub numbered : Numbered m (effects-table m (take (n - 0) new)) old new
 
 module _ {E : Type 0} (m : Meaning E) (law : Lawful m) (old new : List E) (room : 64 ≤ length old) (is : new ≡ written (entries (met-effects m)) old) where
   enough : ltb (length old) 64 ≡ false
@@ -97,48 +108,46 @@ module _ {E : Type 0} (m : Meaning E) (law : Lawful m) (old new : List E) (room 
 
   pub refused : None ≡ outcome (met-effects m) → Refused
   refused p =
-    let o = overfull-from (effect m) (met-lists (behaviour m)) (p ∙ ap outcome (met-by-lists m law)) in
-    let over : Overfull (behaviour m) (lawful-behaviour m law) (o .0) (o .1 .0) = subst (Ends (behaviour m) (lawful-behaviour m law)) (o .1 .1) (meets (behaviour m) (lawful-behaviour m law)) in
-    record {
-      answer = sym (table-is (overfull (o .0) (o .1 .0)) (o .1 .1));
-      exceeds = subst (Exceeds m 64 old) (sym (entries-are (overfull (o .0) (o .1 .0)) (o .1 .1))) (slice-exceeds m law (o .0) old (omega (arith, over .size)) (o .1 .0) over) }
+      let o = overfull-from (effect m) (met-lists (behaviour m)) (p ∙ ap outcome (met-by-lists m law)) in
+      let over : Overfull (behaviour m) (lawful-behaviour m law) (o .0) (o .1 .0) = subst (Ends (behaviour m) (lawful-behaviour m law)) (o .1 .1) (meets (behaviour m) (lawful-behaviour m law)) in
+      record {
+        answer = sym (table-is (overfull (o .0) (o .1 .0)) (o .1 .1));
+        exceeds = subst (Exceeds m 64 old) (sym (entries-are (overfull (o .0) (o .1 .0)) (o .1 .1))) (slice-exceeds m law (o .0) old (omega (arith, over .size)) (o .1 .0) over);
+      }
 
   module _ (n : ℕ) (some : Some n ≡ outcome (met-effects m)) where
     -- the lists by which the effects were met
-    pub found-lists : (ws : List (List ℕ)) × ((met-lists (behaviour m) ≡ complete ws) × (n ≡ length ws))
+    found-lists : (ws : List (List ℕ)) × ((met-lists (behaviour m) ≡ complete ws) × (n ≡ length ws))
     found-lists = complete-from (effect m) (met-lists (behaviour m)) n (some ∙ ap outcome (met-by-lists m law))
 
     closed : Closed (behaviour m) (lawful-behaviour m law) (found-lists .0)
     closed = closed-lists m law (found-lists .0) (found-lists .1 .0)
 
-    pub met-front : take n new ≡ map (effect m) (found-lists .0)
+    met-front : take n new ≡ map (effect m) (found-lists .0)
     met-front =
-      ap (take n) (entries-are (complete (found-lists .0)) (found-lists .1 .0))
-      ∙ take-at (map (effect m) (found-lists .0)) _ n (length-map (found-lists .0) (effect m) ∙ sym (found-lists .1 .1))
+        ap (take n) (entries-are (complete (found-lists .0)) (found-lists .1 .0))
+        ∙ take-at (map (effect m) (found-lists .0)) _ n (length-map (found-lists .0) (effect m) ∙ sym (found-lists .1 .1))
 
-    pub met-all : All-met m (take n new)
-    met-all = record { lists = found-lists .0; closed = found-lists .1 .0; effects = met-front }
+    -- the part of the slice, as the code takes it
+    part-is : take (n - 0) new ≡ map (effect m) (found-lists .0)
+    part-is = let e : n - 0 ≡ n = omega arith in ap (λ k. take k new) e ∙ met-front
 
-    pub met-count : n ≡ length (take n new)
-    met-count = found-lists .1 .1 ∙ sym (ap length met-front ∙ length-map (found-lists .0) (effect m))
+    part-size : n ≡ length (take (n - 0) new)
+    part-size = found-lists .1 .1 ∙ sym (ap length part-is ∙ length-map (found-lists .0) (effect m))
 
-    pub count-few : n ≤ 64
-    count-few = omega (arith, found-lists .1 .1, closed .few)
+    lists-are : effects-table m (take (n - 0) new) ≡ lists-table (behaviour m) (found-lists .0)
+    lists-are = ap (effects-table m) part-is ∙ table-by-lists m law (found-lists .0) (closed .own)
 
-    pub count-fits : n ≤ length new
-    count-fits = omega (arith, met-count, Rattle.std.proofs.shelf.Lists.length-take n new)
-
-    lists-are : effects-table m (take n new) ≡ lists-table (behaviour m) (found-lists .0)
-    lists-are = ap (effects-table m) met-front ∙ table-by-lists m law (found-lists .0) (closed .own)
-
-    pub numbers-some : Numbers-some (effects-table m (take n new))
-    numbers-some = subst Numbers-some (sym lists-are) (record { rule = behaviour m; lawful = lawful-behaviour m law; numbers = numbers (behaviour m) (lawful-behaviour m law) (found-lists .0) closed })
-
-    pub answer-is : Ok (effects-table m (take n new)) ≡ tabled (behaviour m) (length old)
-    answer-is = ap Ok lists-are ∙ sym (table-is (complete (found-lists .0)) (found-lists .1 .0))
-
-    pub numbered-is : Numbered m (effects-table m (take n new)) old new
-    numbered-is =
-      subst (λ t. Numbered m t old new) (sym lists-are)
-      (subst (Numbered m (lists-table (behaviour m) (found-lists .0)) old) (sym (entries-are (complete (found-lists .0)) (found-lists .1 .0)))
-        (slice-numbered m law (found-lists .0) old (omega (arith, closed .few)) closed))
+    pub counted-is : Counted m old new n
+    counted-is = record {
+      fits = omega (arith, part-size, length-take (n - 0) new);
+      few = omega (arith, found-lists .1 .1, closed .few);
+      part = record { lists = found-lists .0; closed = found-lists .1 .0; effects = part-is };
+      count = part-size;
+      some = subst Numbers-some (sym lists-are) (record { rule = behaviour m; lawful = lawful-behaviour m law; numbers = numbers (behaviour m) (lawful-behaviour m law) (found-lists .0) closed });
+      answer = ap Ok lists-are ∙ sym (table-is (complete (found-lists .0)) (found-lists .1 .0));
+      slice = slice-is;
+      numbered = subst (λ t. Numbered m t old new) (sym lists-are)
+          (subst (Numbered m (lists-table (behaviour m) (found-lists .0)) old) (sym (entries-are (complete (found-lists .0)) (found-lists .1 .0)))
+          (slice-numbered m law (found-lists .0) old (omega (arith, closed .few)) closed));
+    }

@@ -52,8 +52,8 @@ module _ {E : Type 0} (m : Meaning E) (law : Lawful m) (met : List E) (all : All
 
   pub met-known : (w : List ℕ) → Below (m .commands) w → isSome (place (m .same) 0 met (effect m w)) ≡ true
   met-known w o =
-    ap (λ l. isSome (place (m .same) 0 l (effect m w))) (all .effects) ∙ ap isSome (place-map (effect m) (m .same) 0 (all .lists) w)
-    ∙ known-place (behaviour m) (lawful-behaviour m law) (all .lists) closed w o
+      ap (λ l. isSome (place (m .same) 0 l (effect m w))) (all .effects) ∙ ap isSome (place-map (effect m) (m .same) 0 (all .lists) w)
+      ∙ known-place (behaviour m) (lawful-behaviour m law) (all .lists) closed w o
 
   -- an effect that was met is that of a list
   pub record Listed (e : E) : Type 0 where
@@ -63,11 +63,12 @@ module _ {E : Type 0} (m : Meaning E) (law : Lawful m) (met : List E) (all : All
 
   listed-at : (i : ℕ) → i < length met → Listed (getD met i (m .neutral))
   listed-at i h =
-    let l : i < length (all .lists) = omega (arith, size) in
-    record {
-      list = getD (all .lists) i [];
-      below = all-getD (Below (m .commands)) (all .lists) i [] l (closed .own);
-      is = ap (λ xs. getD xs i (m .neutral)) (all .effects) ∙ getD-map (effect m) (all .lists) i [] (m .neutral) l }
+      let l : i < length (all .lists) = omega (arith, size) in
+      record {
+        list = getD (all .lists) i [];
+        below = all-getD (Below (m .commands)) (all .lists) i [] l (closed .own);
+        is = ap (λ xs. getD xs i (m .neutral)) (all .effects) ∙ getD-map (effect m) (all .lists) i [] (m .neutral) l;
+      }
 
   pub listed-read : (i : ℕ) (e : E) → i < length met → e ≡ getD met i e → Listed e
   listed-read i e h is = subst Listed (sym (getD-read met i e h is (m .neutral))) (listed-at i h)
@@ -78,7 +79,7 @@ module _ {E : Type 0} (m : Meaning E) (law : Lawful m) (met : List E) (all : All
       go : (p : Option ℕ) → Placed (m .same) (m .neutral) 0 met e p → isSome p ≡ true → Listed e
       go None q t = absurd (both-ways false refl t)
       go (Some k) (j, (_, f)) t =
-        subst Listed (law .same-is (getD met j (m .neutral)) e (all-getD (m .own) met j (m .neutral) (f .below) met-own) o .0 (f .alike)) (listed-at j (f .below))
+          subst Listed (law .same-is (getD met j (m .neutral)) e (all-getD (m .own) met j (m .neutral) (f .below) met-own) o .0 (f .alike)) (listed-at j (f .below))
 
   pub listed-own : (e : E) → Listed e → m .own e
   listed-own e l = subst (m .own) (sym (l .is)) (effect-own m law (l .list) (l .below))
@@ -93,18 +94,19 @@ module _ {E : Type 0} (m : Meaning E) (law : Lawful m) (met : List E) (all : All
   listed-join a b x y = record {
     list = x .list ++ y .list;
     below = all-append (λ c. c < m .commands) (x .list) (y .list) (x .below) (y .below);
-    is = ap₂ (m .join) (x .is) (y .is) ∙ sym (effect-append m law (x .list) (y .list) (x .below) (y .below)) }
+    is = ap₂ (m .join) (x .is) (y .is) ∙ sym (effect-append m law (x .list) (y .list) (x .below) (y .below));
+  }
 
 -- ---- loops that fill a list place by place
 
 pub filled-more : {X Y : Type 0} (f : X → Y) (xs : List X) (ys : List Y) (i : ℕ) (x : X) (y : Y) → i < length xs → i < length ys → x ≡ getD xs i x → y ≡ f x → take i ys ≡ map f (take i xs)
-  → take (i + 1) (set ys i y) ≡ map f (take (i + 1) xs)
+    → take (i + 1) (set ys i y) ≡ map f (take (i + 1) xs)
 filled-more f xs ys i x y h l is e inv =
     take-more-set ys i y l ∙ ap₂ (λ zs z. zs ++ z ∷ []) inv (e ∙ ap f is) ∙ sym (map-more f xs i x h)
 
 -- the same, read through a function
 pub filled-through : {X Y Z : Type 0} (g : Y → Z) (f : X → Z) (xs : List X) (ys : List Y) (i : ℕ) (x : X) (y : Y) → i < length xs → i < length ys → x ≡ getD xs i x → g y ≡ f x → map g (take i ys) ≡ map f (take i xs)
-  → map g (take (i + 1) (set ys i y)) ≡ map f (take (i + 1) xs)
+    → map g (take (i + 1) (set ys i y)) ≡ map f (take (i + 1) xs)
 filled-through g f xs ys i x y h l is e inv =
     ap (map g) (take-more-set ys i y l) ∙ map-push g (take i ys) y ∙ ap₂ (λ zs z. zs ++ z ∷ []) inv (e ∙ ap f is) ∙ sym (map-more f xs i x h)
 

@@ -7,8 +7,8 @@ use Rattle.rules.specs.Meaning.{Meaning, Below, effect}
 
 pub record Behaviour : Type 0 where
   pub commands : ℕ
-  pub same : List ℕ → List ℕ → Bool    -- the two lists have one effect
-  pub breaks : List ℕ → Bool           -- the list's effect breaks the rule
+  pub same : List ℕ → List ℕ → Bool  -- the two lists have one effect
+  pub breaks : List ℕ → Bool  -- the list's effect breaks the rule
 
 abbrev pub behaviour : {E : Type 0} → Meaning E → Behaviour
 behaviour m = record {
@@ -25,5 +25,5 @@ pub record LawfulBehaviour (b : Behaviour) : Type 0 where
   pub symmetric : (u v : List ℕ) → Below (b .commands) u → Below (b .commands) v → b .same u v ≡ true → b .same v u ≡ true
   pub transitive : (u v w : List ℕ) → Below (b .commands) u → Below (b .commands) v → Below (b .commands) w → b .same u v ≡ true → b .same v w ≡ true → b .same u w ≡ true
   pub joined : (u v x y : List ℕ) → Below (b .commands) u → Below (b .commands) v → Below (b .commands) x → Below (b .commands) y
-    → b .same u v ≡ true → b .same x y ≡ true → b .same (u ++ x) (v ++ y) ≡ true
+      → b .same u v ≡ true → b .same x y ≡ true → b .same (u ++ x) (v ++ y) ≡ true
   pub broken : (u v : List ℕ) → Below (b .commands) u → Below (b .commands) v → b .same u v ≡ true → b .breaks u ≡ b .breaks v

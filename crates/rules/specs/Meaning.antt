@@ -8,11 +8,11 @@ use Rattle.std.specs.shelf.Lists.{All}
 
 -- All that a rule with effects of type E offers, as one value.
 pub record Meaning (E : Type 0) : Type 1 where
-  pub commands : ℕ           -- C: the commands are the numbers below it
-  pub own : E → Type 0       -- the values of E that are effects of this rule
-  pub command : ℕ → E        -- the effect of a command below C
-  pub neutral : E            -- the effect of doing nothing
-  pub join : E → E → E       -- one effect after another, the left one first
+  pub commands : ℕ  -- C: the commands are the numbers below it
+  pub own : E → Type 0  -- the values of E that are effects of this rule
+  pub command : ℕ → E  -- the effect of a command below C
+  pub neutral : E  -- the effect of doing nothing
+  pub join : E → E → E  -- one effect after another, the left one first
   pub same : E → E → Bool
   pub breaks : E → Bool
 

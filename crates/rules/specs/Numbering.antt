@@ -29,10 +29,10 @@ pub record Meeting (commands : ℕ) (number : List ℕ → ℕ) (list : ℕ → 
 -- The table numbers the effects that the lists of commands have.
 pub record Numbers (b : Behaviour) (t : Table) : Type 0 where
   pub commands : t .commands ≡ b .commands
-  pub number : List ℕ → ℕ                -- the number of a list's effect
+  pub number : List ℕ → ℕ  -- the number of a list's effect
   pub below : (w : List ℕ) → Below (b .commands) w → number w < t .count
   pub same : (u v : List ℕ) → Below (b .commands) u → Below (b .commands) v → (number u ≡ number v) ↔ (b .same u v ≡ true)
-  pub list : ℕ → List ℕ                  -- the list by which a number was met
+  pub list : ℕ → List ℕ  -- the list by which a number was met
   pub own : (n : ℕ) → n < t .count → Below (b .commands) (list n)
   pub met : (n : ℕ) → n < t .count → number (list n) ≡ n
   pub none : number [] ≡ 0

@@ -61,7 +61,7 @@ row s (suc n) c reg e = then-on (entered s reg (s .next e c)) (λ more. row s n 
 abbrev pub walk : {E : Type 0} → Scheme E → ℕ → ℕ → List E → Survey E
 walk s zero i reg = complete reg
 walk s (suc n) i reg =
-  cond (ltb i (length reg)) (then-on (row s (s .commands) 0 reg (getD reg i (s .first))) (λ more. walk s n (i + 1) more)) (complete reg)
+    cond (ltb i (length reg)) (then-on (row s (s .commands) 0 reg (getD reg i (s .first))) (λ more. walk s n (i + 1) more)) (complete reg)
 
 -- what a slice holds that held old, once these entries were written at its front
 abbrev pub written : {E : Type 0} → List E → List E → List E

@@ -14,10 +14,10 @@ use Rattle.rules.specs.Register.{place}
 
 pub record Table : Type 0 where
   pub commands : ℕ
-  pub count : ℕ                  -- how many effects there are
-  pub numbers : List ℕ           -- the number of each command's effect
-  pub joins : List (List ℕ)      -- row i has the numbers of effect i joined with each effect
-  pub breaking : ℕ               -- the set of breaking numbers
+  pub count : ℕ  -- how many effects there are
+  pub numbers : List ℕ  -- the number of each command's effect
+  pub joins : List (List ℕ)  -- row i has the numbers of effect i joined with each effect
+  pub breaking : ℕ  -- the set of breaking numbers
 
 abbrev pub number-of : Table → ℕ → ℕ
 number-of t c = getD (t .numbers) c 0

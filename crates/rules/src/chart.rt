@@ -10,7 +10,6 @@ ghost use Rattle.rules.specs.Bits.{has};
 ghost use Rattle.rules.specs.Boxes.{through, composed, accepting, charted, Charts};
 ghost use Rattle.rules.specs.ChartRecords.{Reads, Inside, drawn-boxes, drawn-finals};
 ghost use Rattle.rules.specs.laws.Boxes.{charted-lawful};
-
 use crate::fault::RuleFault;
 use crate::rule::Command;
 use crate::rule::OrderRule;
@@ -22,6 +21,7 @@ pub type BoxWord = u64;
 const IDENTITY: BoxWord = 0x8040_2010_0804_0201;
 
 const RECORD_LEN: usize = 12;
+
 const MOST_RECORDS: usize = 1024;
 
 /// One record of a chart.
@@ -37,9 +37,12 @@ impl ChartRecord {
     {
         match bytes {
             [0, from, command, to, 255, 255, 255, 255, 255, 255, 255, 255]
-                if *from < 8 && *command < 16 && *to < 8 =>
-            {
-                Some(ChartRecord::Arrow { from: *from, command: *command, to: *to })
+                if *from < 8 && *command < 16 && *to < 8 => {
+                Some(ChartRecord::Arrow {
+                    from: *from,
+                    command: *command,
+                    to: *to,
+                })
             }
             [1, state, 255, 255, 255, 255, 255, 255, 255, 255, 255, 255] if *state < 8 => {
                 Some(ChartRecord::Final { state: *state })
@@ -66,7 +69,10 @@ impl Chart {
         if bytes.len() % RECORD_LEN != 0 || whole > MOST_RECORDS {
             return Err(RuleFault::ChartLength(whole));
         }
-        let mut chart = Chart { boxes: [0; 16], finals: [false; 8] };
+        let mut chart = Chart {
+            boxes: [0; 16],
+            finals: [false; 8],
+        };
         for i in 0..whole {
             let at = RECORD_LEN * i;
             let Some(item) = ChartRecord::read(&bytes[at..at + RECORD_LEN]) else {
@@ -142,7 +148,11 @@ pub impl OrderRule for Chart as ChartOrderRule {
     }
 
     fn command(&self, c: Command) -> Option<BoxWord> {
-        if c < 16 { Some(self.boxes[usize::from(c)]) } else { None }
+        if c < 16 {
+            Some(self.boxes[usize::from(c)])
+        } else {
+            None
+        }
     }
 
     fn neutral(&self) -> BoxWord {

@@ -6,7 +6,6 @@ ghost use Rattle.std.specs.Results.{Cases as ByOk};
 ghost use Rattle.rules.specs.Bounds.{items};
 ghost use Rattle.rules.specs.Counting.{counted, Counts, Modular, Residues, Countable, Uncountable};
 ghost use Rattle.rules.specs.laws.Counting.{counted-lawful};
-
 use crate::bounded::Bounded;
 use crate::fault::RuleFault;
 use crate::rule::Command;
@@ -48,7 +47,11 @@ impl Count {
         if modulus < 64 && permitted >> modulus != 0 {
             return Err(RuleFault::Mask);
         }
-        Ok(Count { modulus, weights: kept, permitted })
+        Ok(Count {
+            modulus,
+            weights: kept,
+            permitted,
+        })
     }
 }
 

@@ -5,7 +5,6 @@ ghost use lib.Chars.{codes};
 ghost use Rattle.std.specs.Written.{decimal};
 ghost use Rattle.std.specs.declared.option.Option.the-variants.{Some};
 ghost use Rattle.rules.specs.Refusals.{layer-name, refusal-text, rule-refusal, effects-refusal};
-
 use std::fmt;
 
 /// The part of the solver that refused.
@@ -74,7 +73,11 @@ impl RuleFault {
             RuleFault::Weight(i) => 2 + usize::from(i),
             RuleFault::Mask => 18,
         };
-        Refusal { number: 5, layer: Layer::Rule, place }
+        Refusal {
+            number: 5,
+            layer: Layer::Rule,
+            place,
+        }
     }
 }
 
@@ -92,8 +95,16 @@ impl EffectsFault {
         ensures { λ r. ⌜ r ≡ effects-refusal self ⌝ }
     {
         match self {
-            EffectsFault::TooMany => Refusal { number: 6, layer: Layer::Effects, place: 64 },
-            EffectsFault::ShortSlice(entries) => Refusal { number: 7, layer: Layer::Effects, place: entries },
+            EffectsFault::TooMany => Refusal {
+                number: 6,
+                layer: Layer::Effects,
+                place: 64,
+            },
+            EffectsFault::ShortSlice(entries) => Refusal {
+                number: 7,
+                layer: Layer::Effects,
+                place: entries,
+            },
         }
     }
 }

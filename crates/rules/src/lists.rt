@@ -2,7 +2,6 @@
 ghost use mathlib.Core.Path.{_≡_};
 ghost use Rattle.std.specs.declared.option.Option.the-variants.{Some};
 ghost use Rattle.rules.specs.Judgements.{Judged, judgement-name};
-
 use crate::rule::Command;
 use crate::rule::OrderRule;
 use std::fmt;

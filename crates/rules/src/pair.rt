@@ -2,7 +2,6 @@
 ghost use mathlib.Core.Path.{_≡_};
 ghost use Rattle.rules.specs.Pairs.{paired, Permits-both};
 ghost use Rattle.rules.specs.laws.Pairs.{paired-lawful};
-
 use crate::rule::Command;
 use crate::rule::OrderRule;
 

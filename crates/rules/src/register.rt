@@ -7,7 +7,6 @@ ghost use Prim.Native.Nat.{_≤_};
 ghost use lib.ListN.{length, take};
 ghost use Rattle.std.specs.shelf.Lists.{All};
 ghost use Rattle.rules.specs.Register.{place, entered, row, outcome, entries, written, of-effects, met-effects};
-
 use crate::rule::OrderRule;
 
 /// How many effects have a number.
@@ -28,7 +27,12 @@ pub(crate) fn find<R: OrderRule>(rule: &R, met: &[R::Effect], e: R::Effect) -> O
 }
 
 /// Enters an effect if it is new: how many there are then, or `None` where it finds no place.
-fn enter<R: OrderRule>(rule: &R, slice: &mut [R::Effect], count: usize, e: R::Effect) -> Option<usize>
+fn enter<R: OrderRule>(
+    rule: &R,
+    slice: &mut [R::Effect],
+    count: usize,
+    e: R::Effect,
+) -> Option<usize>
     requires few { ⌜ count ≤ 64 ⌝ }
     requires room { ⌜ 64 ≤ length (now slice) ⌝ }
     requires met { ⌜ All (R·OrderRule .meaning (now rule) .own) (take count (now slice)) ⌝ }
@@ -47,7 +51,12 @@ fn enter<R: OrderRule>(rule: &R, slice: &mut [R::Effect], count: usize, e: R::Ef
 }
 
 /// Enters what the effect `from` leads to by each command.
-fn extend<R: OrderRule>(rule: &R, slice: &mut [R::Effect], count: usize, from: R::Effect) -> Option<usize>
+fn extend<R: OrderRule>(
+    rule: &R,
+    slice: &mut [R::Effect],
+    count: usize,
+    from: R::Effect,
+) -> Option<usize>
     requires few { ⌜ count ≤ 64 ⌝ }
     requires room { ⌜ 64 ≤ length (now slice) ⌝ }
     requires met { ⌜ All (R·OrderRule .meaning (now rule) .own) (take count (now slice)) ⌝ }

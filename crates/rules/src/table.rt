@@ -1,7 +1,6 @@
 //! The effect table: what is known of a rule once its effects have numbers.
 ghost use Prim.Native.Nat.{_≤_};
 ghost use Rattle.rules.specs.Views.{table-from, Numbers-some};
-
 use crate::bounded::Bounded;
 use crate::effect_set::EffectNumber;
 use crate::effect_set::EffectSet;

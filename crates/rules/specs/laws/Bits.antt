@@ -95,11 +95,11 @@ has-number f zero k h = absurd (omega arith)
 has-number f (suc n) k h =
     ⊎-elim
     (λ e. subst (λ j. has (number f (suc n)) j ≡ f j) (sym e)
-      (ap (λ x. eqb (x % 2) 1) (shr-high (cond (f n) 1 0) n (number f n) (number-lt f n)) ∙ digit-bit (f n)))
+    (ap (λ x. eqb (x % 2) 1) (shr-high (cond (f n) 1 0) n (number f n) (number-lt f n)) ∙ digit-bit (f n)))
     (λ (l : (k < n) ⊎ (n < k)). ⊎-elim
-      (λ l. sym (has-mod (number f (suc n)) n k l)
-        ∙ ap (λ x. has x k) (mod-low (cond (f n) 1 0) n (number f n) (number-lt f n)) ∙ has-number f n k l)
-      (λ l. absurd (omega arith)) l)
+    (λ l. sym (has-mod (number f (suc n)) n k l)
+    ∙ ap (λ x. has x k) (mod-low (cond (f n) 1 0) n (number f n) (number-lt f n)) ∙ has-number f n k l)
+    (λ l. absurd (omega arith)) l)
     (cases-order k n)
 
 digit-back : (x : ℕ) → x < 2 → x ≡ cond (eqb (x % 2) 1) 1 0
@@ -115,7 +115,7 @@ number-has (suc n) a h =
     sym (shr-split a n)
     ∙ ap (λ x. x * 2 ^ n + a % 2 ^ n) (digit-back (a / 2 ^ n) below)
     ∙ ap (λ x. cond (has a n) 1 0 * 2 ^ n + x)
-      (number-has n (a % 2 ^ n) (mod-below a (2 ^ n) (pow-pos n)) ∙ number-ext (has (a % 2 ^ n)) (has a) n (λ k l. has-mod a n k l))
+    (number-has n (a % 2 ^ n) (mod-below a (2 ^ n) (pow-pos n)) ∙ number-ext (has (a % 2 ^ n)) (has a) n (λ k l. has-mod a n k l))
 
 spread : (c x y s t : ℕ) → c * (x * y) + (s * x + t) ≡ (c * y + s) * x + t
 spread c x y s t = omega (arith, add-mul (c * y) s x, mul-assoc c y x, ap (λ z. c * z) (mul-comm x y))
@@ -135,14 +135,16 @@ has-pow i k =
     ⊎-elim
     (λ e. subst (λ j. has (2 ^ i) j ≡ eqb j i) (sym e) (top ∙ sym (eq-eqb i i refl)))
     (λ (l : (k < i) ⊎ (i < k)). ⊎-elim
-      (λ l. sym (has-mod (2 ^ i) i k l) ∙ ap (λ x. has x k) low ∙ has-zero k ∙ sym (ne-eqb k i (λ e. omega arith)))
-      (λ l. has-above (suc i) (2 ^ i) k (pow-below i (suc i) (omega arith)) l ∙ sym (ne-eqb k i (λ e. omega arith))) l)
+    (λ l. sym (has-mod (2 ^ i) i k l) ∙ ap (λ x. has x k) low ∙ has-zero k ∙ sym (ne-eqb k i (λ e. omega arith)))
+    (λ l. has-above (suc i) (2 ^ i) k (pow-below i (suc i) (omega arith)) l ∙ sym (ne-eqb k i (λ e. omega arith))) l)
     (cases-order k i)
   where
     one : 1 * 2 ^ i + 0 ≡ 2 ^ i
     one = omega arith
+
     top : has (2 ^ i) i ≡ true
     top = ap (λ x. has x i) (sym one) ∙ ap (λ x. eqb (x % 2) 1) (shr-high 1 i 0 (pow-pos i))
+
     low : 2 ^ i % 2 ^ i ≡ 0
     low = ap (λ x. x % 2 ^ i) (sym one) ∙ mod-low 1 i 0 (pow-pos i)
 
@@ -170,6 +172,7 @@ some-bit n h = go (cases-bool (some-below n (has n)))
     zeros : (k : ℕ) → number (λ _. false) k ≡ 0
     zeros zero = refl
     zeros (suc k) = omega (arith, zeros k)
+
     go : (some-below n (has n) ≡ true) ⊎ (some-below n (has n) ≡ false) → (k : ℕ) × (has n k ≡ true)
     go (inl e) = let w = some-is n (has n) .0 e in (w .0, w .2)
     go (inr e) =

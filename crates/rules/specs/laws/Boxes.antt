@@ -20,9 +20,10 @@ Between a b p q = (r : ℕ) × (r < 8) × (pairs a p r ≡ true) × (pairs b r q
 
 pub between : (a b p q : ℕ) → Decides (through a b p q) (Between a b p q)
 between a b p q =
-    let s = some-is 8 (λ r. pairs a p r && pairs b r q) in
-    ((λ t. let w = s .0 t in let x = and-parts (pairs a p (w .0)) (pairs b (w .0) q) (w .2) in (w .0, w .1, x .0, x .1)),
-     (λ w. s .1 (w .0, w .1, and-from (pairs a p (w .0)) (pairs b (w .0) q) (w .2) (w .3))))
+    let s = some-is 8 (λ r. pairs a p r && pairs b r q) in (
+      (λ t. let w = s .0 t in let x = and-parts (pairs a p (w .0)) (pairs b (w .0) q) (w .2) in (w .0, w .1, x .0, x .1)),
+      (λ w. s .1 (w .0, w .1, and-from (pairs a p (w .0)) (pairs b (w .0) q) (w .2) (w .3))),
+    )
 
 pub pairs-composed : (a b p q : ℕ) → p < 8 → q < 8 → pairs (composed a b) p q ≡ through a b p q
 unfolding composed
@@ -74,9 +75,9 @@ same-box : (f : ℕ → ℕ → Bool) (a : ℕ) → a < 2 ^ 64 → ((p q : ℕ) 
 same-box f a h each =
     number-ext (λ k. f (k / 8) (k % 8)) (has a) 64
     (λ k l.
-      let d = each (k / 8) (k % 8) (omega arith) (omega arith) in
-      let e : pairs a (k / 8) (k % 8) ≡ has a k = ap (has a) (split-place k) in
-      same-tests _ _ (λ t. sym e ∙ d .0 t) (λ t. d .1 (e ∙ t)))
+    let d = each (k / 8) (k % 8) (omega arith) (omega arith) in
+    let e : pairs a (k / 8) (k % 8) ≡ has a k = ap (has a) (split-place k) in
+    same-tests _ _ (λ t. sym e ∙ d .0 t) (λ t. d .1 (e ∙ t)))
     ∙ sym (number-has 64 a h)
 
 -- boxes with the same pairs are one
@@ -88,18 +89,20 @@ box-ext a b h l each =
 composed-left : (a : ℕ) → a < 2 ^ 64 → composed identity a ≡ a
 unfolding composed
 composed-left a h = same-box (through identity a) a h (λ p q l k. (
-    (λ t. let w = between identity a p q .0 t in
+  (λ t. let w = between identity a p q .0 t in
       let e : p ≡ w .0 = eqb-true p (w .0) (sym (pairs-identity p (w .0) l (w .1)) ∙ w .2) in
       subst (λ r. pairs a r q ≡ true) (sym e) (w .3)),
-    (λ t. between identity a p q .1 (p, l, pairs-identity p p l l ∙ eq-eqb p p refl, t))))
+  (λ t. between identity a p q .1 (p, l, pairs-identity p p l l ∙ eq-eqb p p refl, t)),
+))
 
 composed-right : (a : ℕ) → a < 2 ^ 64 → composed a identity ≡ a
 unfolding composed
 composed-right a h = same-box (through a identity) a h (λ p q l k. (
-    (λ t. let w = between a identity p q .0 t in
+  (λ t. let w = between a identity p q .0 t in
       let e : w .0 ≡ q = eqb-true (w .0) q (sym (pairs-identity (w .0) q (w .1) k) ∙ w .3) in
       subst (λ r. pairs a p r ≡ true) e (w .2)),
-    (λ t. between a identity p q .1 (q, k, t, pairs-identity q q k k ∙ eq-eqb q q refl))))
+  (λ t. between a identity p q .1 (q, k, t, pairs-identity q q k k ∙ eq-eqb q q refl)),
+))
 
 pub charted-lawful : (boxes : List ℕ) (finals : List Bool) → ((c : ℕ) → c < 16 → getD boxes c 0 < 2 ^ 64) → Lawful (charted boxes finals)
 charted-lawful boxes finals boxed = record {

@@ -19,6 +19,6 @@ paired-lawful {A} {B} {a} {b} x y = record {
   left = λ d p. ap₂ (λ u v. (u, v)) (x .left (d .0) (p .0)) (y .left (d .1) (p .1));
   right = λ d p. ap₂ (λ u v. (u, v)) (x .right (d .0) (p .0)) (y .right (d .1) (p .1));
   same-is = λ d e p q.
-    decides-like (paired a b .same d e) (λ h. ap₂ (λ u v. (u, v)) (h .0) (h .1)) (λ h. (cc, cc))
-    (decides-and (a .same (d .0) (e .0)) (b .same (d .1) (e .1)) (x .same-is (d .0) (e .0) (p .0) (q .0)) (y .same-is (d .1) (e .1) (p .1) (q .1)));
+      decides-like (paired a b .same d e) (λ h. ap₂ (λ u v. (u, v)) (h .0) (h .1)) (λ h. (cc, cc))
+      (decides-and (a .same (d .0) (e .0)) (b .same (d .1) (e .1)) (x .same-is (d .0) (e .0) (p .0) (q .0)) (y .same-is (d .1) (e .1) (p .1) (q .1)));
 }

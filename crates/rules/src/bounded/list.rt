@@ -8,7 +8,6 @@ ghost use lib.ListN.{length};
 ghost use Rattle.std.specs.Options.{Cases as BySome};
 ghost use Rattle.std.specs.shelf.Maps.{nth};
 ghost use Rattle.rules.specs.Bounds.{items};
-
 use crate::bounded::Bounded;
 
 impl<T: Copy, const N: usize> Bounded<T, N> {
@@ -16,7 +15,10 @@ impl<T: Copy, const N: usize> Bounded<T, N> {
     pub(crate) fn empty(fill: T) -> Bounded<T, N>
         ensures { λ r. ⌜ items r ≡ [] ⌝ }
     {
-        Bounded { cells: [fill; N], len: 0 }
+        Bounded {
+            cells: [fill; N],
+            len: 0,
+        }
     }
 
     /// The items of a slice, or `None` where it has more than `N`.
@@ -30,7 +32,10 @@ impl<T: Copy, const N: usize> Bounded<T, N> {
         for (i, item) in list.iter().enumerate() {
             cells[i] = *item;
         }
-        Some(Bounded { cells, len: list.len() })
+        Some(Bounded {
+            cells,
+            len: list.len(),
+        })
     }
 
     /// Puts one more item at the end: whether there was room for it.
@@ -55,6 +60,10 @@ impl<T: Copy, const N: usize> Bounded<T, N> {
     pub(crate) fn get(&self, i: usize) -> Option<T>
         ensures { λ r. ⌜ r ≡ nth (items (now (self .entry))) i ⌝ }
     {
-        if i < self.len { Some(self.cells[i]) } else { None }
+        if i < self.len {
+            Some(self.cells[i])
+        } else {
+            None
+        }
     }
 }

@@ -2,7 +2,6 @@
 ghost use mathlib.Core.Path.{_≡_};
 ghost use Rattle.rules.specs.Lookups.{table-command, table-join};
 ghost use Rattle.rules.specs.Surveys.{view};
-
 use crate::effect_set::EffectNumber;
 use crate::effect_set::EffectSet;
 use crate::rule::Command;

@@ -11,7 +11,6 @@ ghost use Rattle.rules.specs.Bounds.{items};
 ghost use Rattle.rules.specs.Register.{place};
 ghost use Rattle.rules.specs.Surveys.{viewed, tabled, slice-after, Surveyed, All-met};
 ghost use Rattle.rules.specs.Tables.{numbered, join-row, effects-table};
-
 use crate::bounded::Bounded;
 use crate::effect_set::EffectNumber;
 use crate::effect_set::EffectSet;
@@ -40,7 +39,12 @@ impl EffectTable {
         let numbers = number_commands(rule, met);
         let joins = join_all(rule, met);
         let breaking = breaking_set(rule, met);
-        Ok(EffectTable { count, numbers, joins, breaking })
+        Ok(EffectTable {
+            count,
+            numbers,
+            joins,
+            breaking,
+        })
     }
 }
 

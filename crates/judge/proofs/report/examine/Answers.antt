@@ -36,7 +36,9 @@ returns c =
       effects = c .effects .ensures;
       breaking = c .breaking .ensures;
       said = elim (c .match-list .came) [
-          in-Some w ↦ subst (λ o. Said-if bytes (held o) (c .match-list .judgement)) (sym (w .in-Some .is))
+        | in-Some w ↦ subst (λ o. Said-if bytes (held o) (c .match-list .judgement)) (sym (w .in-Some .is))
             (subst (Said-if bytes (held (Some (w .in-Some .commands)))) (sym (w .judgement-is))
-              (said bytes (x .boxes) (x .finals) (x .boxed) (made .0) (made .1) (w .in-Some .commands .now) (w .judge .result) (w .judge .ensures)))
-        | in-None w ↦ subst (λ o. Said-if bytes (held o) (c .match-list .judgement)) (sym (w .in-None .is)) (subst (Said-if bytes (held None)) (sym (w .judgement-is)) tt) ] }
+            (said bytes (x .boxes) (x .finals) (x .boxed) (made .0) (made .1) (w .in-Some .commands .now) (w .judge .result) (w .judge .ensures)))
+        | in-None w ↦ subst (λ o. Said-if bytes (held o) (c .match-list .judgement)) (sym (w .in-None .is)) (subst (Said-if bytes (held None)) (sym (w .judgement-is)) tt)
+      ];
+    }

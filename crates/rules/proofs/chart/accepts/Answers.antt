@@ -19,9 +19,10 @@ loop-q-again c =
     let a = c .args .a in
     let q = c .loop-q .q in
     elim (c .else-finals-from .came) [
-      else-finals-from·by·then-finals-from·else-a-q-eq1 w ↦ ends-more fs a q (c .loop-q .inv) (no-bit fs a q (w .if-a-q-eq1 .left))
-    | else-finals-from·by·else-finals-from w ↦ ends-more fs a q (c .loop-q .inv)
-        (and-left (getD fs q false) (pairs a 0 q) (ap (λ k. getD fs k false) (sym (c .from .ensures)) ∙ w .if-finals-from .left)) ]
+      | else-finals-from·by·then-finals-from·else-a-q-eq1 w ↦ ends-more fs a q (c .loop-q .inv) (no-bit fs a q (w .if-a-q-eq1 .left))
+      | else-finals-from·by·else-finals-from w ↦ ends-more fs a q (c .loop-q .inv)
+          (and-left (getD fs q false) (pairs a 0 q) (ap (λ k. getD fs k false) (sym (c .from .ensures)) ∙ w .if-finals-from .left))
+    ]
 
 pub returns-then-a-q-eq1 : need.returns-then-a-q-eq1
 returns-then-a-q-eq1 c =

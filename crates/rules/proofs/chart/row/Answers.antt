@@ -11,10 +11,11 @@ loop-r-holds c = row-none (c .args .a) (c .args .b) (c .args .p)
 pub loop-r-again : need.loop-r-again
 loop-r-again c =
     elim (c .if-a-p-eq1 .came) [
-      then-a-p-eq1 w ↦ subst (Row (c .args .a) (c .args .b) (c .args .p) (c .loop-r .r + 1)) (sym (w .states-is))
-        (row-yes (c .args .a) (c .args .b) (c .args .p) (c .loop-r .r) (c .loop-r .states) (c .loop-r .inv) (w .if-a-p-eq1 .taken))
-    | else-a-p-eq1 w ↦ subst (Row (c .args .a) (c .args .b) (c .args .p) (c .loop-r .r + 1)) (sym (w .states-is))
-        (row-no (c .args .a) (c .args .b) (c .args .p) (c .loop-r .r) (c .loop-r .states) (c .loop-r .inv) (w .if-a-p-eq1 .left)) ]
+      | then-a-p-eq1 w ↦ subst (Row (c .args .a) (c .args .b) (c .args .p) (c .loop-r .r + 1)) (sym (w .states-is))
+          (row-yes (c .args .a) (c .args .b) (c .args .p) (c .loop-r .r) (c .loop-r .states) (c .loop-r .inv) (w .if-a-p-eq1 .taken))
+      | else-a-p-eq1 w ↦ subst (Row (c .args .a) (c .args .b) (c .args .p) (c .loop-r .r + 1)) (sym (w .states-is))
+          (row-no (c .args .a) (c .args .b) (c .args .p) (c .loop-r .r) (c .loop-r .states) (c .loop-r .inv) (w .if-a-p-eq1 .left))
+    ]
 
 pub returns : need.returns
 returns c =

@@ -13,12 +13,13 @@ pub loop-i-again : need.loop-i-again
 loop-i-again g c =
     let xs = c .args .list .now in
     let i = c .loop-i .i in
-    let x = c .index-list-i .result in
-    (length-set (c .loop-i .cells) i x ∙ c .loop-i .inv .0,
-     take-more-set (c .loop-i .cells) i x (omega (arith, c .loop-i .inv .0))
-     ∙ ap (λ l. l ++ x ∷ []) (c .loop-i .inv .1)
-     ∙ ap (λ y. take i xs ++ y ∷ []) (c .index-list-i .is)
-     ∙ sym (take-more xs i x (c .loop-i-test .taken)))
+    let x = c .index-list-i .result in (
+      length-set (c .loop-i .cells) i x ∙ c .loop-i .inv .0,
+      take-more-set (c .loop-i .cells) i x (omega (arith, c .loop-i .inv .0))
+          ∙ ap (λ l. l ++ x ∷ []) (c .loop-i .inv .1)
+          ∙ ap (λ y. take i xs ++ y ∷ []) (c .index-list-i .is)
+          ∙ sym (take-more xs i x (c .loop-i-test .taken)),
+    )
 
 pub returns : need.returns
 returns g c =

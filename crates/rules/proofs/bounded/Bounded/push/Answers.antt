@@ -18,4 +18,5 @@ returns g c =
     record {
       room = sym t;
       items = take-more-set (b .cells) (b .len) (c .args .item) (omega (arith, b .whole))
-        ∙ sym (cond-true (ltb (length (items b)) (g .N)) (items b ++ c .args .item ∷ []) (items b) t) }
+          ∙ sym (cond-true (ltb (length (items b)) (g .N)) (items b ++ c .args .item ∷ []) (items b) t);
+    }

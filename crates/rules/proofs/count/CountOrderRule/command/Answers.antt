@@ -9,4 +9,5 @@ returns c =
     let ws = items (c .args .self .now .weights) in
     record {
       some = λ h. c .get .ensures ∙ ap (nth ws) (c .from .ensures) ∙ nth-getD ws (c .args .c) 0 h;
-      none = λ h. c .get .ensures ∙ ap (nth ws) (c .from .ensures) ∙ nth-past ws (c .args .c) h }
+      none = λ h. c .get .ensures ∙ ap (nth ws) (c .from .ensures) ∙ nth-past ws (c .args .c) h;
+    }

@@ -13,4 +13,4 @@ returns-then-column-self c =
     ap (λ k. Some (getD (getD (t .joins) k []) (c .from-column .result) 0)) (c .from-row .ensures)
     ∙ ap (λ k. Some (getD (getD (t .joins) (c .args .i) []) k 0)) (c .from-column .ensures)
     ∙ join-is (t .count) (t .numbers) (t .joins) (t .breaking) (c .args .i) (c .args .j) (omega (arith, t .few))
-      (omega (arith, c .from-row .ensures, c .if-row-self .taken)) (omega (arith, c .from-column .ensures, c .if-column-self .taken))
+    (omega (arith, c .from-row .ensures, c .if-row-self .taken)) (omega (arith, c .from-column .ensures, c .if-column-self .taken))

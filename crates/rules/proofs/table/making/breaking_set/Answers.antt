@@ -22,6 +22,7 @@ loop-i-again g c =
     let own = listed-own m law met (c .pre) e (listed-read m law met (c .pre) i e (c .loop-i-test .taken) (c .index-met-i .is)) in
     let is : f i ≡ c .breaks .result = ap (m .breaks) (sym (getD-read met i e (c .loop-i-test .taken) (c .index-met-i .is) (m .neutral))) ∙ sym (c .breaks .ensures own) in
     elim (c .if-breaks .came) [
-      then-breaks w ↦ ap (λ s. s .bits) (w .breaking-is) ∙ w .with-breaking .ensures .value
-        ∙ member-more f 64 i (c .loop-i .breaking .bits) (omega (arith, met-few m law met (c .pre))) (c .loop-i .inv) (is ∙ w .if-breaks .taken)
-    | else-breaks w ↦ ap (λ s. s .bits) (w .breaking-is) ∙ member-not f i (c .loop-i .breaking .bits) (c .loop-i .inv) (is ∙ w .if-breaks .left) ]
+      | then-breaks w ↦ ap (λ s. s .bits) (w .breaking-is) ∙ w .with-breaking .ensures .value
+          ∙ member-more f 64 i (c .loop-i .breaking .bits) (omega (arith, met-few m law met (c .pre))) (c .loop-i .inv) (is ∙ w .if-breaks .taken)
+      | else-breaks w ↦ ap (λ s. s .bits) (w .breaking-is) ∙ member-not f i (c .loop-i .breaking .bits) (c .loop-i .inv) (is ∙ w .if-breaks .left)
+    ]

@@ -28,10 +28,11 @@ loop-i-again g c =
     let m = g .R·OrderRule .meaning (c .args .rule .now) in
     let law = g .R·OrderRule .lawful (c .args .rule .now) in
     let met = c .args .met .now in
-    let i = c .loop-i .i in
-    (length-set (c .loop-i .joins) i (c .join-each .result) ∙ c .loop-i .inv .0,
-     filled-through (take (length met)) (join-row (m .same) (m .join) met) met (c .loop-i .joins) i (c .index-met-i .result) (c .join-each .result) (c .loop-i-test .taken)
-     (omega (arith, c .loop-i .inv .0, met-few m law met (c .pre))) (c .index-met-i .is) (c .join-each .ensures) (c .loop-i .inv .1))
+    let i = c .loop-i .i in (
+      length-set (c .loop-i .joins) i (c .join-each .result) ∙ c .loop-i .inv .0,
+      filled-through (take (length met)) (join-row (m .same) (m .join) met) met (c .loop-i .joins) i (c .index-met-i .result) (c .join-each .result) (c .loop-i-test .taken)
+          (omega (arith, c .loop-i .inv .0, met-few m law met (c .pre))) (c .index-met-i .is) (c .join-each .ensures) (c .loop-i .inv .1),
+    )
 
 pub returns : need.returns
 returns g c =

@@ -25,7 +25,8 @@ number-of-requires g c κs =
       few = met-few m law met (c .pre .all);
       met = met-own m law met (c .pre .all);
       own = subst (m .own) (sym is) (listed-own m law met (c .pre .all) (m .join (c .args .a) b) z);
-      known = subst (λ e. isSome (place (m .same) 0 met e) ≡ true) (sym is) (listed-known m law met (c .pre .all) (m .join (c .args .a) b) z) }
+      known = subst (λ e. isSome (place (m .same) 0 met e) ≡ true) (sym is) (listed-known m law met (c .pre .all) (m .join (c .args .a) b) z);
+    }
 
 pub index-row-j : need.index-row-j
 index-row-j g c = omega (arith, met-few (g .R·OrderRule .meaning (c .args .rule .now)) (g .R·OrderRule .lawful (c .args .rule .now)) (c .args .met .now) (c .pre .all))
@@ -38,10 +39,11 @@ loop-j-again g c =
     let j = c .loop-j .j in
     let b = c .index-met-j .result in
     let y = listed-read m law met (c .pre .all) j b (c .loop-j-test .taken) (c .index-met-j .is) in
-    let is : c .join .result ≡ m .join (c .args .a) b = c .join .ensures (c .pre .own) (listed-own m law met (c .pre .all) b y) in
-    (length-set (c .loop-j .row) j (c .number-of .result) ∙ c .loop-j .inv .0,
-     filled-more (λ e. numbered (m .same) met (m .join (c .args .a) e)) met (c .loop-j .row) j b (c .number-of .result) (c .loop-j-test .taken)
-     (omega (arith, c .loop-j .inv .0, met-few m law met (c .pre .all))) (c .index-met-j .is) (c .number-of .ensures ∙ ap (numbered (m .same) met) is) (c .loop-j .inv .1))
+    let is : c .join .result ≡ m .join (c .args .a) b = c .join .ensures (c .pre .own) (listed-own m law met (c .pre .all) b y) in (
+      length-set (c .loop-j .row) j (c .number-of .result) ∙ c .loop-j .inv .0,
+      filled-more (λ e. numbered (m .same) met (m .join (c .args .a) e)) met (c .loop-j .row) j b (c .number-of .result) (c .loop-j-test .taken)
+          (omega (arith, c .loop-j .inv .0, met-few m law met (c .pre .all))) (c .index-met-j .is) (c .number-of .ensures ∙ ap (numbered (m .same) met) is) (c .loop-j .inv .1),
+    )
 
 pub returns : need.returns
 returns g c =

@@ -28,7 +28,8 @@ number-of-requires g c κs =
       few = met-few m law met (c .pre);
       met = met-own m law met (c .pre);
       own = subst (m .own) (sym (k .1)) (listed-own m law met (c .pre) e l);
-      known = subst (λ x. isSome (place (m .same) 0 met x) ≡ true) (sym (k .1)) (listed-known m law met (c .pre) e l) }
+      known = subst (λ x. isSome (place (m .same) 0 met x) ≡ true) (sym (k .1)) (listed-known m law met (c .pre) e l);
+    }
 
 pub loop-c-again : need.loop-c-again
 loop-c-again g c =
