@@ -10,7 +10,7 @@ use lib.Bits.{bitAnd, bitOr}
 use lib.Dec.{eqb}
 use lib.ListN.{length, getD, set, replicate}
 use Rattle.std.specs.Orderings.{Decides}
-use Rattle.std.proofs.shelf.Bits.{or-lt, pow-below}
+use Rattle.std.proofs.shelf.Bits.{or-lt, mod-below, pow-pos}
 use Rattle.std.proofs.shelf.Lists.{getD-set-same, getD-set-other, getD-replicate, length-set}
 use Rattle.std.proofs.shelf.Tests.{eqb-true, eq-eqb, and-parts, and-from, or-cases, or-left, or-right, cases-eq, cases-lt, false≢true, not-true, not-false, not-from-true, or-from, and-right, ne-eqb}
 use Rattle.std.proofs.shelf.Ways.{decides-eqb, decides-at, decides-like, decides-not, not-from-decides}
@@ -35,13 +35,15 @@ pub reads-formed : (bs : List ℕ) (x : ChartRecord) → Reads bs x → Formed b
 reads-formed bs (arrow p c q) r = inl (p, c, q, r)
 reads-formed bs (final q) r = inr (q, r)
 
-pub boxed-more : (boxes : List ℕ) (d v : ℕ) → d < length boxes → v < 2 ^ 64 → ((c : ℕ) → c < 16 → getD boxes c 0 < 2 ^ 64) → (c : ℕ) → c < 16 → getD (set boxes d (bitOr (getD boxes d 0) v)) c 0 < 2 ^ 64
-boxed-more boxes d v l h boxed c k = go (cases-eq c d)
+-- a box stays one when a bit is added to it, as the code shifts it
+pub boxed-more : (boxes : List ℕ) (d x : ℕ) → d < length boxes → ((c : ℕ) → c < 16 → getD boxes c 0 < 2 ^ 64) → (c : ℕ) → c < 16 → getD (set boxes d (bitOr (getD boxes d 0) (x % 2 ^ 64))) c 0 < 2 ^ 64
+boxed-more boxes d x l boxed c k = go (cases-eq c d)
   where
-    go : (c ≡ d) ⊎ (c ≡ d → ⊥) → getD (set boxes d (bitOr (getD boxes d 0) v)) c 0 < 2 ^ 64
-    go (inl e) = subst (λ j. getD (set boxes d (bitOr (getD boxes d 0) v)) j 0 < 2 ^ 64) (sym e)
-        (subst (λ x. x < 2 ^ 64) (sym (getD-set-same boxes d (bitOr (getD boxes d 0) v) 0 l)) (or-lt 64 (getD boxes d 0) v (subst (λ j. getD boxes j 0 < 2 ^ 64) e (boxed c k)) h))
-    go (inr n) = subst (λ x. x < 2 ^ 64) (sym (getD-set-other boxes d c (bitOr (getD boxes d 0) v) 0 n)) (boxed c k)
+    go : (c ≡ d) ⊎ (c ≡ d → ⊥) → getD (set boxes d (bitOr (getD boxes d 0) (x % 2 ^ 64))) c 0 < 2 ^ 64
+    go (inl e) = subst (λ j. getD (set boxes d (bitOr (getD boxes d 0) (x % 2 ^ 64))) j 0 < 2 ^ 64) (sym e)
+      (subst (λ y. y < 2 ^ 64) (sym (getD-set-same boxes d (bitOr (getD boxes d 0) (x % 2 ^ 64)) 0 l))
+        (or-lt 64 (getD boxes d 0) (x % 2 ^ 64) (subst (λ j. getD boxes j 0 < 2 ^ 64) e (boxed c k)) (mod-below x (2 ^ 64) (pow-pos 64))))
+    go (inr n) = subst (λ y. y < 2 ^ 64) (sym (getD-set-other boxes d c (bitOr (getD boxes d 0) (x % 2 ^ 64)) 0 n)) (boxed c k)
 
 -- what the first i + 1 records name is what the first i do, and the next
 one-more : (P : ℕ → Type 0) (i : ℕ) → ((j : ℕ) × (j < i + 1) × P j) → ((j : ℕ) × (j < i) × P j) ⊎ P i
