@@ -1,18 +1,14 @@
 -- What the judge finds of a chart, in the words of its automaton.
-use mathlib.Core.Path.{_≡_, refl, sym, _∙_, ap, subst}
+use mathlib.Core.Path.{_≡_, refl, _∙_, ap, subst}
 use mathlib.Core.List.{List, [], _∷_, _++_}
 use mathlib.Core.Logic.{_⊎_, inl, inr}
 use mathlib.Core.Bool.{Bool}
 use Prim.Native.Nat.{ℕ, _+_, _^_, _<_, _≤_}
 use native.Mathlib.Omega.{arith}
-use denote.Ref.{RefT, now}
 use lib.ListN.{length, getD}
-use Rattle.std.specs.Orderings.{Decides}
 use Rattle.std.specs.declared.option.Option.{Option}
-use Rattle.std.specs.declared.option.Option.the-variants.{Some, None}
 use Rattle.std.specs.declared.result.Result.{Result}
 use Rattle.std.specs.declared.result.Result.the-variants.{Ok, Err}
-use Rattle.std.specs.shelf.Lists.{All}
 use Rattle.std.proofs.shelf.Elements.{all-push, all-getD}
 use Rattle.std.proofs.shelf.Lists.{getD-append-left, getD-push, length-push}
 use Rattle.std.proofs.shelf.Tests.{cases-lt}
@@ -31,9 +27,7 @@ use Rattle.rules.specs.Numbering.{Exceeds}
 use Rattle.rules.specs.Surveys.{Surveyed}
 use Rattle.rules.specs.laws.Boxes.{charted-lawful}
 use Rattle.rules.proofs.Effects.{effect-own}
-use Rattle.judge.specs.declared.fault.JudgeFault.{JudgeFault}
-use Rattle.judge.specs.declared.fault.JudgeFault.the-variants.{Rule, Effects}
-use Rattle.judge.specs.declared.report.Report.{Report}
+use Rattle.judge.specs.declared.fault.JudgeFault.the-variants.{Effects}
 use Rattle.judge.specs.Reports.{Automatic, Said, Too-many, Reported}
 
 module _ (bytes : List ℕ) (boxes : List ℕ) (finals : List Bool) (boxed : (c : ℕ) → c < 16 → getD boxes c 0 < 2 ^ 64) (chart : Chartable bytes) (charts : Charts bytes (charted boxes finals)) where

@@ -13,14 +13,14 @@ use Rattle.std.specs.Iters.{counting}
 use Rattle.std.proofs.shelf.Elements.{all-getD, all-push, all-append}
 use Rattle.std.proofs.shelf.Lists.{getD-map, length-map, map-push}
 use Rattle.std.proofs.shelf.Tests.{ltb-true}
-use Rattle.rules.specs.Behaviours.{Behaviour, behaviour, LawfulBehaviour}
+use Rattle.rules.specs.Behaviours.{behaviour, LawfulBehaviour}
 use Rattle.rules.specs.Bits.{number}
 use Rattle.rules.specs.Meaning.{Meaning, Lawful, Below, effect}
 use Rattle.rules.specs.Register.{Scheme, Survey, complete, overfull, entries, then-on, mapped, place, entered-at, entered, row, walk, of-effects, of-lists, met-effects, met-lists}
-use Rattle.rules.specs.Tables.{Table, numbered, found, join-row, breaking-set, effects-table, lists-table}
+use Rattle.rules.specs.Tables.{numbered, found, join-row, breaking-set, effects-table, lists-table}
 use Rattle.rules.specs.laws.Bits.{number-ext}
 use Rattle.rules.proofs.Effects.{effect-own, effect-append, effect-push}
-use Rattle.rules.proofs.Registering.{Grows, row-grows}
+use Rattle.rules.proofs.Registering.{row-grows}
 
 pub place-map : {A B : Type 0} (f : A → B) (same : B → B → Bool) (i : ℕ) (us : List A) (w : A) → place same i (map f us) (f w) ≡ place (λ u v. same (f u) (f v)) i us w
 place-map f same i [] w = refl

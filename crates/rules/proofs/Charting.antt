@@ -1,35 +1,31 @@
 -- A chart drawn from records permits exactly what their automaton accepts.
 use mathlib.Core.Path.{_≡_, refl, sym, _∙_, ap, subst}
-use mathlib.Core.Bool.{Bool, true, false, not, _&&_, _||_}
+use mathlib.Core.Bool.{Bool, true, false, _&&_, _||_}
 use mathlib.Core.List.{List, [], _∷_}
 use mathlib.Core.Logic.{_⊎_, inl, inr, ⊎-elim, _↔_}
-use Prim.Native.Nat.{ℕ, _+_, _*_, _/_, _%_, _^_, _<_, _≤_}
+use Prim.Native.Nat.{ℕ, _+_, _*_, _/_, _%_, _^_, _<_}
 use native.Mathlib.Nat.{zero-add}
 use native.Mathlib.Omega.{arith}
 use lib.Bits.{bitAnd, bitOr}
 use lib.Dec.{eqb}
-use lib.ListN.{length, getD, set, replicate}
+use lib.ListN.{length, getD, set}
 use Rattle.std.specs.Orderings.{Decides}
 use Rattle.std.proofs.shelf.Bits.{or-lt, mod-below, pow-pos}
-use Rattle.std.proofs.shelf.Lists.{getD-set-same, getD-set-other, getD-replicate, length-set}
-use Rattle.std.proofs.shelf.Tests.{eqb-true, eq-eqb, and-parts, and-from, or-cases, or-left, or-right, cases-eq, cases-lt, false≢true, not-true, not-false, not-from-true, or-from, and-right, ne-eqb}
+use Rattle.std.proofs.shelf.Lists.{getD-set-same, getD-set-other, length-set}
+use Rattle.std.proofs.shelf.Tests.{eqb-true, eq-eqb, and-parts, and-from, or-cases, or-left, or-right, cases-eq, cases-lt, not-true, not-false, not-from-true, or-from, and-right, ne-eqb}
 use Rattle.std.proofs.shelf.Ways.{decides-eqb, decides-at, decides-like, decides-not, not-from-decides}
 use Rattle.rules.specs.declared.chart.ChartRecord.{ChartRecord}
 use Rattle.rules.specs.declared.chart.ChartRecord.the-variants.{Arrow as arrow, Final as final}
 use Rattle.rules.specs.Automata.{record-at, arrow-bytes, final-bytes, Arrow-form, Final-form, Formed, Arrow, Final, Leads, Accepts, Lead-alike}
 use Rattle.rules.specs.Bits.{has, some-below}
 use Rattle.rules.specs.Boxes.{pairs, through, composed, identity, accepting, charted, Drawn, Charts}
-use Rattle.rules.specs.ChartRecords.{Reads, Inside, drawn-boxes, drawn-finals}
+use Rattle.rules.specs.ChartRecords.{Reads, drawn-boxes, drawn-finals}
 use Rattle.rules.specs.Meaning.{Below, effect}
-use Rattle.rules.specs.laws.Bits.{same-tests, has-or, has-pow, has-zero, some-is, some-more, bit-test}
+use Rattle.rules.specs.laws.Bits.{same-tests, has-or, has-pow, some-is, some-more, bit-test}
 use Rattle.rules.specs.laws.Boxes.{between, pairs-composed, pairs-identity, box-ext, charted-lawful}
 use Rattle.rules.proofs.Effects.{effect-own}
 
 -- ---- drawing one record
-
-pub reads-inside : (bs : List ℕ) (x : ChartRecord) → Reads bs x → Inside x
-reads-inside bs (arrow p c q) r = (r .0, r .1, r .2)
-reads-inside bs (final q) r = r .0
 
 pub reads-formed : (bs : List ℕ) (x : ChartRecord) → Reads bs x → Formed bs
 reads-formed bs (arrow p c q) r = inl (p, c, q, r)

@@ -1,17 +1,16 @@
 -- A count permits a list exactly where the sum of its weights is a permitted residue.
-use mathlib.Core.Path.{_≡_, refl, sym, _∙_, ap, subst}
-use mathlib.Core.Bool.{Bool, true, false, not}
+use mathlib.Core.Path.{_≡_, refl, sym, _∙_, ap}
 use mathlib.Core.List.{List, [], _∷_}
 use mathlib.Core.Logic.{_⊎_, inl, inr}
 use Prim.Native.Nat.{ℕ, _+_, _-_, _/_, _%_, _^_, _<_, _≤_}
 use native.Mathlib.Nat.{add-mod-mod, zero-mod}
 use native.Mathlib.Omega.{arith}
-use lib.ListN.{length, getD}
+use lib.ListN.{getD}
 use Rattle.std.proofs.shelf.Tests.{not-false, not-from-true, cases-lt, false≢true}
 use Rattle.rules.specs.Bits.{has}
 use Rattle.rules.specs.laws.Bits.{has-shr, has-zero, has-above, some-bit}
 use Rattle.rules.specs.Counting.{counted, total, Counts, Masks}
-use Rattle.rules.specs.Meaning.{Below, effect}
+use Rattle.rules.specs.Meaning.{effect}
 
 module _ (m : ℕ) (weights : List ℕ) (mask : ℕ) where
   sums : (w : List ℕ) → effect (counted m weights mask) w ≡ total weights w % m

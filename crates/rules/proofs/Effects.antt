@@ -1,8 +1,7 @@
 -- Effects of lists under a lawful rule.
-use mathlib.Core.Path.{_≡_, refl, sym, _∙_, ap}
+use mathlib.Core.Path.{_≡_, sym, _∙_, ap}
 use mathlib.Core.List.{List, [], _∷_, _++_}
 use Prim.Native.Nat.{ℕ, _<_}
-use Rattle.std.specs.shelf.Lists.{All}
 use Rattle.rules.specs.Meaning.{Meaning, Lawful, Below, effect}
 
 module _ {E : Type 0} (m : Meaning E) (law : Lawful m) where

@@ -4,7 +4,6 @@ use mathlib.Core.Bool.{Bool, true, false, _&&_, _||_}
 use Prim.Native.Nat.{ℕ, _+_, _*_, _/_, _%_, _^_, _<_}
 use native.Mathlib.Omega.{arith}
 use lib.Bits.{bitAnd, bitOr, mask-lt, or-shifted-r}
-use lib.Dec.{eqb}
 use Rattle.std.proofs.shelf.Bits.{and-mask, or-lt, shl-whole}
 use Rattle.std.proofs.shelf.Tests.{eq-eqb, ne-eqb, both-ways}
 use Rattle.rules.specs.Bits.{has, some-below, number}

@@ -12,7 +12,7 @@ use Rattle.std.specs.declared.option.Option.the-variants.{Some, None}
 use Rattle.std.specs.shelf.Lists.{All}
 use Rattle.std.proofs.shelf.Elements.{all-getD, all-push}
 use Rattle.std.proofs.shelf.Lists.{getD-append-left, getD-push, length-push}
-use Rattle.std.proofs.shelf.Tests.{cases-bool, cases-eq, cases-lt, cond-false, cond-true, ltb-false, ltb-true}
+use Rattle.std.proofs.shelf.Tests.{cases-lt, ltb-false, ltb-true}
 use Rattle.rules.specs.Behaviours.{Behaviour, LawfulBehaviour}
 use Rattle.rules.specs.Meaning.{Below}
 use Rattle.rules.specs.Numbering.{Before}

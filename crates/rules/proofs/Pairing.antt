@@ -1,13 +1,13 @@
 -- A pair permits exactly what both of its parts permit.
-use mathlib.Core.Path.{_≡_, refl, ap, ap₂, _∙_, sym}
-use mathlib.Core.Bool.{Bool, true, false, _||_}
+use mathlib.Core.Path.{_≡_, refl, ap, _∙_, sym}
+use mathlib.Core.Bool.{_||_}
 use mathlib.Core.List.{List, [], _∷_}
-use mathlib.Core.Logic.{_↔_, _⊎_, inl, inr, ⊎-elim}
+use mathlib.Core.Logic.{_⊎_, inl, inr, ⊎-elim}
 use Prim.Native.Nat.{ℕ, min, _<_}
 use native.Mathlib.Omega.{arith}
 use Rattle.std.proofs.shelf.Tests.{or-parts, or-from, or-cases, or-left, or-right}
 use Rattle.std.proofs.shelf.Elements.{all-weaker}
-use Rattle.rules.specs.Meaning.{Meaning, Below, effect, Permitted, Forbidden}
+use Rattle.rules.specs.Meaning.{Meaning, Below, effect, Forbidden}
 use Rattle.rules.specs.Pairs.{paired, Permits-both}
 
 below-both : (m n : ℕ) (w : List ℕ) → Below m w → Below n w → Below (min m n) w

@@ -2,7 +2,7 @@
 use mathlib.Core.Path.{_≡_, refl, sym, _∙_, ap, subst}
 use mathlib.Core.Bool.{Bool, true, false, cond}
 use mathlib.Core.List.{List, [], _∷_, _++_}
-use mathlib.Core.Logic.{_⊎_, inl, inr, ⊎-elim}
+use mathlib.Core.Logic.{_⊎_, inl, inr}
 use Prim.Native.Nat.{ℕ, zero, suc, _+_, _-_, _<_, _≤_}
 use native.Mathlib.Numerals.{add-one}
 use native.Mathlib.Omega.{arith}
@@ -13,7 +13,7 @@ use Rattle.std.specs.declared.option.Option.{Option}
 use Rattle.std.specs.declared.option.Option.the-variants.{Some, None}
 use Rattle.std.specs.shelf.Lists.{All}
 use Rattle.std.proofs.shelf.Elements.{all-push, all-getD}
-use Rattle.std.proofs.shelf.Lists.{append-assoc, drop-all, drop-at, drop-drop, drop-more, drop-set-lt, getD-append-left, getD-read, length-append, length-drop, length-push, length-take-le, set-at, take-append-drop, take-at}
+use Rattle.std.proofs.shelf.Lists.{append-assoc, drop-all, drop-at, drop-drop, drop-more, length-append, length-drop, length-push, length-take-le, take-append-drop, take-at}
 use Rattle.std.proofs.shelf.Tests.{both-ways, cases-bool, cond-false, cond-true, le-ltb, lt-ltb, ltb-true}
 use Rattle.rules.specs.Register.{Scheme, Survey, complete, overfull, entries, outcome, then-on, place, entered-at, entered, row, walk, written}
 
@@ -272,9 +272,6 @@ module _ {E : Type 0} (s : Scheme E) where
           (entered-grows own (at .reg) (s .next from c) fits) (λ full f p. row-stop C c (at .reg) full from f lt p)
 
     module _ (i : ℕ) (lt : i < n) (fits : (e : E) → own e → (k : ℕ) → k < s .commands → own (s .next e k)) (at : Stands own old xs n (λ reg. walk s (s .room - i) i reg) whole) where
-      abbrev pub from-here : E
-      from-here = getD (at .reg) i (s .first)
-
       here : i < length (at .reg)
       here = omega (arith, at .holds .count)
 

@@ -9,10 +9,10 @@ use Rattle.std.specs.declared.option.Option.{Option}
 use Rattle.std.specs.declared.option.Option.the-variants.{Some, None}
 use Rattle.std.specs.shelf.Lists.{All}
 use Rattle.std.proofs.shelf.Elements.{all-getD}
-use Rattle.std.proofs.shelf.Lists.{drop-set-lt, getD-append-left, getD-read, getD-take, length-set}
+use Rattle.std.proofs.shelf.Lists.{drop-set-lt, getD-read, getD-take, length-set}
 use Rattle.rules.specs.Meaning.{Meaning, Lawful}
 use Rattle.rules.specs.Register.{place, Survey, entries, outcome, entered, row, walk, written, of-effects, met-effects}
-use Rattle.rules.proofs.Registering.{place-here, place-past, place-end, Stands, Answers, Holds, front, long, holds-front, row-step, row-off, row-done, walk-step, walk-off, walk-done, walk-longer}
+use Rattle.rules.proofs.Registering.{place-here, place-past, place-end, Stands, Answers, front, long, holds-front, row-step, row-off, row-done, walk-step, walk-off, walk-done, walk-longer}
 
 module _ {E : Type 0} (m : Meaning E) (law : Lawful m) where
   -- ---- looking for an effect, from number i on

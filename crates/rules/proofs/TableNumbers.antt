@@ -1,16 +1,14 @@
 -- The table of a closed register numbers the rule.
 use mathlib.Core.Path.{_≡_, refl, sym, _∙_, ap, subst}
-use mathlib.Core.Bool.{Bool, true, false}
+use mathlib.Core.Bool.{true}
 use mathlib.Core.List.{List, [], _∷_, _++_, map}
-use mathlib.Core.Logic.{_⊎_, inl, inr, _↔_}
+use mathlib.Core.Logic.{_⊎_, inl, inr}
 use Prim.Native.Nat.{ℕ, zero, suc, _<_, _≤_}
 use native.Mathlib.Omega.{arith}
 use lib.ListN.{length, getD, drop}
-use Rattle.std.specs.Iters.{counting}
 use Rattle.std.specs.Options.{isSome}
 use Rattle.std.specs.declared.option.Option.{Option}
 use Rattle.std.specs.declared.option.Option.the-variants.{Some, None}
-use Rattle.std.specs.shelf.Lists.{All}
 use Rattle.std.specs.shelf.Maps.{nth}
 use Rattle.std.proofs.shelf.Counted.{getD-map-counting}
 use Rattle.std.proofs.shelf.Elements.{all-append, all-getD, all-push}
@@ -22,10 +20,10 @@ use Rattle.rules.specs.Bits.{has, number}
 use Rattle.rules.specs.Meaning.{Meaning, Lawful, Below, effect}
 use Rattle.rules.specs.Numbering.{Numbers, Meeting, Before, Numbered, Exceeds}
 use Rattle.rules.specs.Register.{place, written}
-use Rattle.rules.specs.Tables.{Table, found, numbered, join-row, lists-table, join-of}
+use Rattle.rules.specs.Tables.{found, numbered, join-row, lists-table, join-of}
 use Rattle.rules.specs.laws.Bits.{has-number, has-above, number-lt}
 use Rattle.rules.proofs.ByLists.{same-effect, effect-same, lawful-behaviour}
-use Rattle.rules.proofs.Meetings.{Found, Missing, Placed, placed, Known, Met, State, Closed, Overfull}
+use Rattle.rules.proofs.Meetings.{Placed, placed, Known, Closed, Overfull}
 
 module _ (b : Behaviour) (law : LawfulBehaviour b) (reg : List (List ℕ)) (closed : Closed b law reg) where
   abbrev C : ℕ

@@ -1,14 +1,12 @@
 -- An effect table as the code holds it and reads it.
 use mathlib.Core.Path.{_≡_, refl, sym, _∙_, ap, subst}
-use mathlib.Core.Bool.{Bool, true, false, cond}
-use mathlib.Core.List.{List, [], _∷_, map}
+use mathlib.Core.Bool.{false}
+use mathlib.Core.List.{List, [], map}
 use mathlib.Core.Logic.{⊎-elim}
 use Prim.Native.Nat.{ℕ, _-_, _<_, _≤_}
 use native.Mathlib.Omega.{arith}
 use lib.Dec.{ltb}
 use lib.ListN.{length, getD, take}
-use Rattle.std.specs.Iters.{counting}
-use Rattle.std.specs.declared.option.Option.{Option}
 use Rattle.std.specs.declared.option.Option.the-variants.{Some, None}
 use Rattle.std.specs.declared.result.Result.the-variants.{Ok, Err}
 use Rattle.std.specs.shelf.Maps.{nth}
@@ -18,16 +16,15 @@ use Rattle.std.proofs.shelf.Maps.{nth-getD, nth-past}
 use Rattle.std.proofs.shelf.Tests.{and-from, cases-lt, cond-false, cond-true, le-ltb, lt-ltb}
 use Rattle.rules.specs.declared.bounded.Bounded.{Bounded}
 use Rattle.rules.specs.declared.effect_set.EffectSet.{EffectSet}
-use Rattle.rules.specs.declared.fault.EffectsFault.{EffectsFault}
 use Rattle.rules.specs.declared.fault.EffectsFault.the-variants.{TooMany, ShortSlice}
-use Rattle.rules.specs.Behaviours.{Behaviour, behaviour}
+use Rattle.rules.specs.Behaviours.{behaviour}
 use Rattle.rules.specs.Bounds.{items}
 use Rattle.rules.specs.Lookups.{table-command, table-join}
 use Rattle.rules.specs.Meaning.{Meaning, Lawful, effect}
 use Rattle.rules.specs.Numbering.{Numbered, Exceeds}
 use Rattle.rules.specs.Register.{Survey, complete, overfull, entries, outcome, mapped, met-effects, met-lists, written}
 use Rattle.rules.specs.Surveys.{tabled, tabled-by, slice-after, All-met}
-use Rattle.rules.specs.Tables.{Table, join-of, numbered, join-row, breaking-set, effects-table, lists-table}
+use Rattle.rules.specs.Tables.{Table, join-of, numbered, effects-table, lists-table}
 use Rattle.rules.specs.Views.{table-from, Numbers-some}
 use Rattle.rules.proofs.ByLists.{lawful-behaviour, met-by-lists, table-by-lists}
 use Rattle.rules.proofs.Meetings.{Closed, Ends, Overfull, meets}

@@ -2,7 +2,6 @@
 use mathlib.Core.Path.{_≡_, refl, sym, _∙_, ap, ap₂, subst}
 use mathlib.Core.Bool.{Bool, true, false, cond}
 use mathlib.Core.List.{List, [], _∷_, _++_, map}
-use mathlib.Core.Logic.{_⊎_, inl, inr}
 use Prim.Native.Nat.{ℕ, _+_, _*_, _^_, _<_, _≤_}
 use native.Mathlib.Numerals.{add-one}
 use native.Mathlib.Omega.{arith}
@@ -14,19 +13,18 @@ use Rattle.std.specs.declared.option.Option.{Option}
 use Rattle.std.specs.declared.option.Option.the-variants.{Some, None}
 use Rattle.std.specs.shelf.Lists.{All}
 use Rattle.std.proofs.shelf.Elements.{all-append, all-getD, all-map, all-weaker}
-use Rattle.std.proofs.shelf.Lists.{getD-map, getD-read, length-map, length-set, map-more, map-push, take-more-set}
+use Rattle.std.proofs.shelf.Lists.{getD-map, getD-read, length-map, map-more, map-push, take-more-set}
 use Rattle.std.proofs.shelf.Tests.{both-ways, cond-true, lt-ltb}
 use Rattle.rules.specs.Behaviours.{behaviour}
 use Rattle.rules.specs.Bits.{number}
 use Rattle.rules.specs.Meaning.{Meaning, Lawful, Below, effect}
-use Rattle.rules.specs.Register.{Survey, complete, overfull, place, met-lists}
+use Rattle.rules.specs.Register.{complete, place, met-lists}
 use Rattle.rules.specs.Sets.{added}
 use Rattle.rules.specs.Surveys.{All-met}
-use Rattle.rules.specs.Tables.{numbered, join-row}
 use Rattle.rules.specs.laws.Bits.{number-lt}
 use Rattle.rules.proofs.ByLists.{lawful-behaviour, place-map}
 use Rattle.rules.proofs.Effects.{effect-own, effect-append}
-use Rattle.rules.proofs.Meetings.{Found, Placed, placed, Closed, Ends, meets}
+use Rattle.rules.proofs.Meetings.{Placed, placed, Closed, Ends, meets}
 use Rattle.rules.proofs.TableNumbers.{known-place}
 
 pub place-below : {E : Type 0} (same : E → E → Bool) (d : E) (reg : List E) (e : E) (k : ℕ) → Some k ≡ place same 0 reg e → k < length reg

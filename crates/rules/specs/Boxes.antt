@@ -5,7 +5,7 @@ use mathlib.Core.List.{List}
 use mathlib.Core.Logic.{_↔_}
 use Prim.Native.Nat.{ℕ, _+_, _*_, _/_, _%_, _^_, _<_}
 use lib.Dec.{eqb}
-use lib.ListN.{length, getD}
+use lib.ListN.{getD}
 use Rattle.std.specs.Orderings.{Decides}
 use Rattle.rules.specs.Automata.{Arrow, Final, Leads, Accepts, Lead-alike}
 use Rattle.rules.specs.Bits.{has, some-below, number}

@@ -10,7 +10,7 @@ use lib.Bits.{bitAnd, bitOr}
 use lib.Dec.{eqb}
 use Rattle.std.specs.Orderings.{Decides}
 use Rattle.std.proofs.shelf.Bits.{pow-add, or-shr, or-mod, and-shr, and-mod, shr-shr, field-of, mod-pow-add, shr-high, mod-low, shr-split, pow-pos, shr-below, mod-below, pow-below, and-mask}
-use Rattle.std.proofs.shelf.Tests.{eqb-true, eq-eqb, ne-eqb, cases-order, cases-bool, false≢true}
+use Rattle.std.proofs.shelf.Tests.{eq-eqb, ne-eqb, cases-order, cases-bool, false≢true}
 use Rattle.std.proofs.shelf.Ways.{decides-below-or}
 use Rattle.rules.specs.Bits.{has, some-below, number}
 

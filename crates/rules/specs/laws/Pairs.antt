@@ -1,9 +1,6 @@
 -- The laws of a pair follow from those of its parts.
-use mathlib.Core.Path.{_≡_, refl, ap₂}
-use mathlib.Core.Bool.{true}
-use Prim.Native.Nat.{ℕ, min, _≤_, _<_}
+use mathlib.Core.Path.{ap₂}
 use native.Mathlib.Omega.{arith}
-use Rattle.std.specs.Orderings.{Decides}
 use Rattle.std.proofs.shelf.Ways.{decides-and, decides-like}
 use Rattle.rules.specs.Meaning.{Meaning, Lawful}
 use Rattle.rules.specs.Pairs.{paired}

@@ -1,13 +1,12 @@
-use Prim.Native.Nat.{_≤_}
-use mathlib.Core.Path.{_≡_, sym, _∙_, subst}
+use mathlib.Core.Path.{sym, subst}
 use native.Mathlib.Omega.{arith}
-use lib.ListN.{length, replicate}
+use lib.ListN.{replicate}
 use Rattle.std.specs.declared.option.Option.the-variants.{Some, None}
 use Rattle.std.proofs.shelf.Results.{err-from-errBy}
 use Rattle.rules.specs.Behaviours.{behaviour}
 use Rattle.rules.specs.Boxes.{charted}
-use Rattle.rules.specs.Surveys.{view, Surveyed}
-use Rattle.judge.specs.Reports.{Reported, held, Said-if}
+use Rattle.rules.specs.Surveys.{view}
+use Rattle.judge.specs.Reports.{held, Said-if}
 use Rattle.judge.proofs.Examining.{automatic, said, refused}
 use Rattle.judge.proofs.report.examine.Needs as need
 use Rattle.judge.proofs.report.examine.Needs.{in-Some, in-None}

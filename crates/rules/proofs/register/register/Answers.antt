@@ -1,5 +1,4 @@
-use mathlib.Core.Path.{_≡_, sym, _∙_}
-use native.Mathlib.Omega.{arith}
+use mathlib.Core.Path.{sym, _∙_}
 use lib.ListN.{set}
 use Rattle.rules.specs.Register.{met-effects}
 use Rattle.rules.proofs.Surveying.{ready, walks-start, walks-own, walks-more, walks-off, walks-end, past-first, room-kept}

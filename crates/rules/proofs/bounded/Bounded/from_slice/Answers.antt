@@ -1,8 +1,8 @@
-use Prim.Native.Nat.{_<_, _≤_, _+_}
-use mathlib.Core.Path.{_≡_, refl, sym, _∙_, ap, subst}
+use Prim.Native.Nat.{_+_}
+use mathlib.Core.Path.{_≡_, refl, sym, _∙_, ap}
 use mathlib.Core.List.{_++_, _∷_, []}
 use native.Mathlib.Omega.{arith}
-use lib.ListN.{length, take, getD, length-replicate, length-set}
+use lib.ListN.{length, take, length-replicate, length-set}
 use Rattle.std.proofs.shelf.Lists.{take-more-set, take-more, take-all}
 use Rattle.rules.proofs.bounded.Bounded.from_slice.Needs as need
 

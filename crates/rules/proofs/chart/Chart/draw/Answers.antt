@@ -1,5 +1,5 @@
 use Prim.Native.Nat.{_<_}
-use mathlib.Core.Path.{_≡_, subst}
+use mathlib.Core.Path.{subst}
 use native.Mathlib.Omega.{arith}
 use lib.ListN.{length}
 use Rattle.rules.specs.ChartRecords.{Inside}

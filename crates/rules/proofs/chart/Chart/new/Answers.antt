@@ -1,11 +1,11 @@
-use Prim.Native.Nat.{ℕ, _+_, _-_, _*_, _/_, _<_, _≤_}
+use Prim.Native.Nat.{_+_, _-_, _*_, _/_}
 use mathlib.Core.Path.{_≡_, sym, _∙_, ap, subst}
 use native.Mathlib.Omega.{arith}
 use borrow.Author.Count.{below-more}
 use lib.ListN.{take, drop, length}
 use Rattle.rules.specs.Automata.{Formed, record-at}
 use Rattle.rules.specs.Boxes.{Drawn}
-use Rattle.rules.specs.ChartRecords.{Reads, drawn-boxes, drawn-finals}
+use Rattle.rules.specs.ChartRecords.{Reads, drawn-finals}
 use Rattle.rules.proofs.Charting.{drawn-more, reads-formed, length-boxes, length-finals, charts}
 use Rattle.rules.proofs.chart.Chart.new.Needs as need
 

@@ -1,10 +1,9 @@
-use Prim.Native.Nat.{ℕ, _<_, _≤_, _^_}
+use Prim.Native.Nat.{_<_, _≤_, _^_}
 use mathlib.Core.Path.{_≡_, sym, subst}
 use native.Mathlib.Omega.{arith}
-use lib.ListN.{length, getD}
+use lib.ListN.{length}
 use Rattle.std.proofs.shelf.Tests.{eqb-false}
-use Rattle.rules.specs.Bounds.{items}
-use Rattle.rules.specs.Counting.{counted, Counts, Modular, Few, Residues, Masks}
+use Rattle.rules.specs.Counting.{counted, Counts, Masks}
 use Rattle.rules.specs.laws.Bounds.{length-items}
 use Rattle.rules.proofs.Counts.{counts, masks-from-shift, masks-from-width, shift-from-masks}
 use Rattle.rules.proofs.count.Count.new.Needs as need

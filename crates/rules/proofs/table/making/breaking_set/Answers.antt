@@ -1,8 +1,8 @@
-use Prim.Native.Nat.{ℕ, _<_, _≤_}
+use Prim.Native.Nat.{ℕ}
 use mathlib.Core.Bool.{Bool}
 use mathlib.Core.Path.{_≡_, sym, _∙_, ap}
 use native.Mathlib.Omega.{arith}
-use lib.ListN.{getD, length}
+use lib.ListN.{getD}
 use Rattle.std.proofs.shelf.Lists.{getD-read}
 use Rattle.rules.proofs.Tabling.{met-few, listed-read, listed-own, member-more, member-not}
 use Rattle.rules.proofs.table.making.breaking_set.Needs as need

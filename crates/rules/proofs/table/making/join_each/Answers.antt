@@ -1,4 +1,3 @@
-use Prim.Native.Nat.{_<_, _≤_}
 use mathlib.Core.Path.{_≡_, sym, _∙_, ap, subst}
 use native.Mathlib.Omega.{arith}
 use lib.ListN.{length, take, length-set}
@@ -7,7 +6,7 @@ use mathlib.Core.List.{map}
 use Rattle.std.specs.Options.{isSome}
 use Rattle.std.proofs.shelf.Lists.{take-all}
 use Rattle.rules.specs.Register.{place}
-use Rattle.rules.specs.Tables.{numbered, join-row}
+use Rattle.rules.specs.Tables.{numbered}
 use Rattle.rules.proofs.Tabling.{met-few, met-own, listed-read, listed-found, listed-join, listed-own, listed-known, filled-more}
 use Rattle.rules.proofs.table.making.join_each.Needs as need
 
