@@ -37,7 +37,7 @@ boxed-more boxes d x l boxed c k = go (cases-eq c d)
   where
     go : (c ≡ d) ⊎ (c ≡ d → ⊥) → getD (set boxes d (bitOr (getD boxes d 0) (x % 2 ^ 64))) c 0 < 2 ^ 64
     go (inl e) = subst (λ j. getD (set boxes d (bitOr (getD boxes d 0) (x % 2 ^ 64))) j 0 < 2 ^ 64) (sym e)
-      (subst (λ y. y < 2 ^ 64) (sym (getD-set-same boxes d (bitOr (getD boxes d 0) (x % 2 ^ 64)) 0 l))
+        (subst (λ y. y < 2 ^ 64) (sym (getD-set-same boxes d (bitOr (getD boxes d 0) (x % 2 ^ 64)) 0 l))
         (or-lt 64 (getD boxes d 0) (x % 2 ^ 64) (subst (λ j. getD boxes j 0 < 2 ^ 64) e (boxed c k)) (mod-below x (2 ^ 64) (pow-pos 64))))
     go (inr n) = subst (λ y. y < 2 ^ 64) (sym (getD-set-other boxes d c (bitOr (getD boxes d 0) (x % 2 ^ 64)) 0 n)) (boxed c k)
 

@@ -1,6 +1,5 @@
 -- The loop that judges a list, command by command.
 use mathlib.Core.Path.{_≡_, sym, _∙_, ap, subst}
-use mathlib.Core.Bool.{Bool}
 use mathlib.Core.List.{List}
 use mathlib.Core.Logic.{_⊎_, inl, inr}
 use Prim.Native.Nat.{ℕ, _+_, _<_, _≤_}
@@ -11,6 +10,7 @@ use Rattle.std.specs.declared.option.Option.the-variants.{Some, None}
 use Rattle.std.proofs.shelf.Lists.{take-more, take-all}
 use Rattle.std.proofs.shelf.Elements.{all-push, all-getD}
 use Rattle.std.proofs.shelf.Tests.{cases-lt}
+use Rattle.rules.specs.Judgements.{Has-effect}
 use Rattle.rules.specs.Meaning.{Meaning, Lawful, Below, effect}
 use Rattle.rules.proofs.Effects.{effect-own, effect-push}
 
@@ -42,7 +42,7 @@ module _ {E : Type 0} (m : Meaning E) (law : Lawful m) where
             ∙ sym (effect-push m law (take i w) (getD w i 0) (k .0) lt) ∙ ap (effect m) (sym t),
       )
 
-  pub walked-all : (w : List ℕ) (i : ℕ) (e : E) (r b : Bool) → length w ≤ i → Walked w i e → (m .own e → r ≡ m .breaks e) → r ≡ b → Below (m .commands) w × (m .breaks (effect m w) ≡ b)
-  walked-all w i e r b h k broken is =
+  pub walked-all : (w : List ℕ) (i : ℕ) (e : E) → length w ≤ i → Walked w i e → Has-effect m w e
+  walked-all w i e h k =
       let t = take-all i w h in
-      (subst (Below (m .commands)) t (k .0), ap (m .breaks) (ap (effect m) (sym t) ∙ sym (k .1)) ∙ sym (broken (walked-own w i e k)) ∙ is)
+      record { below = subst (Below (m .commands)) t (k .0); is = k .1 ∙ ap (effect m) t; own = walked-own w i e k }

@@ -1,7 +1,9 @@
 //! One list of commands under any order rule.
 ghost use mathlib.Core.Path.{_≡_};
 ghost use Rattle.std.specs.declared.option.Option.the-variants.{Some};
-ghost use Rattle.rules.specs.Judgements.{Judged, judgement-name};
+ghost use Rattle.std.specs.Options.{Cases as BySome};
+ghost use Rattle.rules.specs.Judgements.{Judged, Has-effect, judgement-name};
+ghost use Rattle.rules.specs.Meaning.{Below};
 use crate::rule::Command;
 use crate::rule::OrderRule;
 use std::fmt;
@@ -27,20 +29,32 @@ pub impl fmt::Display for Judgement as JudgementDisplay {
     }
 }
 
-/// Judges a list by its effect.
-pub fn judge<R: OrderRule>(rule: &R, list: &[Command]) -> Judgement
-    ensures { λ r. ⌜ Judged (R·OrderRule .meaning (now (rule .entry))) (now (list .entry)) r ⌝ }
+/// The effect of a list, or `None` where it has a command that the rule lacks.
+fn effect_of<R: OrderRule>(rule: &R, list: &[Command]) -> Option<R::Effect>
+    ensures { λ r. ⌜ BySome r (Below (R·OrderRule .meaning (now (rule .entry)) .commands) (now (list .entry)) → ⊥) (Has-effect (R·OrderRule .meaning (now (rule .entry))) (now (list .entry))) ⌝ }
 {
     let mut so_far = rule.neutral();
     for c in list {
         let Some(effect) = rule.command(*c) else {
-            return Judgement::Neither;
+            return None;
         };
         so_far = rule.join(so_far, effect);
     }
-    if rule.breaks(so_far) {
-        Judgement::Forbidden
-    } else {
-        Judgement::Permitted
+    Some(so_far)
+}
+
+/// Judges a list by its effect.
+pub fn judge<R: OrderRule>(rule: &R, list: &[Command]) -> Judgement
+    ensures { λ r. ⌜ Judged (R·OrderRule .meaning (now (rule .entry))) (now (list .entry)) r ⌝ }
+{
+    match effect_of(rule, list) {
+        Some(effect) => {
+            if rule.breaks(effect) {
+                Judgement::Forbidden
+            } else {
+                Judgement::Permitted
+            }
+        }
+        None => Judgement::Neither,
     }
 }

@@ -1,6 +1,6 @@
 use lib.ListN.{getD}
 use Rattle.rules.proofs.Judging.{known-command, lacks-command, walked-more, walked-all}
-use Rattle.rules.proofs.lists.judge.Needs as need
+use Rattle.rules.proofs.lists.effect_of.Needs as need
 
 pub returns-in-rest : need.returns-in-rest
 returns-in-rest g c =
@@ -16,10 +16,6 @@ loop-c-again g c =
     (known-command m law (getD w i 0) (c .in-Some .effect) (c .command .result) (c .in-Some .is) (c .command .ensures .some) (c .command .ensures .none))
     (c .join-so-far .ensures)
 
-pub returns-then-breaks : need.returns-then-breaks
-returns-then-breaks g c =
-    walked-all (g .R·OrderRule .meaning (c .args .rule .now)) (g .R·OrderRule .lawful (c .args .rule .now)) (c .args .list .now) (c .loop-c .c-index) (c .loop-c .so-far) (c .breaks .result) _ (c .loop-c-test .left) (c .loop-c .inv) (c .breaks .ensures) (c .if-breaks .taken)
-
-pub returns-else-breaks : need.returns-else-breaks
-returns-else-breaks g c =
-    walked-all (g .R·OrderRule .meaning (c .args .rule .now)) (g .R·OrderRule .lawful (c .args .rule .now)) (c .args .list .now) (c .loop-c .c-index) (c .loop-c .so-far) (c .breaks .result) _ (c .loop-c-test .left) (c .loop-c .inv) (c .breaks .ensures) (c .if-breaks .left)
+pub returns : need.returns
+returns g c =
+    walked-all (g .R·OrderRule .meaning (c .args .rule .now)) (g .R·OrderRule .lawful (c .args .rule .now)) (c .args .list .now) (c .loop-c .c-index) (c .loop-c .so-far) (c .loop-c-test .left) (c .loop-c .inv)

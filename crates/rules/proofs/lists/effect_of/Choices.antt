@@ -1,7 +1,7 @@
 use mathlib.Core.Path.{_≡_}
 use lib.ListN.{take}
 use Rattle.rules.specs.Meaning.{Below, effect}
-use Rattle.rules.proofs.lists.judge.Given as given
+use Rattle.rules.proofs.lists.effect_of.Given as given
 
 abbrev pub Inv-loop-c : given.InvT-loop-c
 Inv-loop-c g l =
