@@ -1,15 +1,19 @@
 -- A count permits a list exactly where the sum of its weights is a permitted residue.
-use mathlib.Core.Path.{_≡_, refl, sym, _∙_, ap}
+use mathlib.Core.Path.{_≡_, refl, sym, _∙_, ap, subst}
 use mathlib.Core.List.{List, [], _∷_}
 use mathlib.Core.Logic.{_⊎_, inl, inr}
 use Prim.Native.Nat.{ℕ, _+_, _-_, _/_, _%_, _^_, _<_, _≤_}
 use native.Mathlib.Nat.{add-mod-mod, zero-mod}
 use native.Mathlib.Omega.{arith}
-use lib.ListN.{getD}
+use lib.ListN.{length, getD}
 use Rattle.std.proofs.shelf.Tests.{not-false, not-from-true, cases-lt, false≢true}
+use Rattle.std.specs.Options.{Cases}
+use Rattle.std.specs.declared.option.Option.{Option}
+use Rattle.std.specs.shelf.Maps.{nth}
+use Rattle.std.proofs.shelf.Maps.{nth-getD, nth-past}
 use Rattle.rules.specs.Bits.{has}
 use Rattle.rules.specs.laws.Bits.{has-shr, has-zero, has-above, some-bit}
-use Rattle.rules.specs.Counting.{counted, total, Counts, Masks}
+use Rattle.rules.specs.Counting.{counted, total, Counts, Masks, Residues}
 use Rattle.rules.specs.Meaning.{effect}
 
 module _ (m : ℕ) (weights : List ℕ) (mask : ℕ) where
@@ -49,3 +53,11 @@ shift-from-masks m mask h below =
     let b = some-bit (mask / 2 ^ m) h in
     let l = below (m + b .0) (sym (has-shr mask m (b .0)) ∙ b .1) in
     omega arith
+
+-- what is read of the weights is a residue
+pub residue-own : (m : ℕ) (weights : List ℕ) (c : ℕ) (r : Option ℕ) → r ≡ nth weights c → Residues m weights (length weights) → Cases r (Unit {0}) (λ e. e < m)
+residue-own m weights c r is below = go (cases-lt c (length weights))
+  where
+    go : (c < length weights) ⊎ (length weights ≤ c) → Cases r (Unit {0}) (λ e. e < m)
+    go (inl h) = subst (λ o. Cases o (Unit {0}) (λ e. e < m)) (sym (is ∙ nth-getD weights c 0 h)) (below c h)
+    go (inr h) = subst (λ o. Cases o (Unit {0}) (λ e. e < m)) (sym (is ∙ nth-past weights c h)) tt

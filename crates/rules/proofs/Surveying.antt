@@ -11,7 +11,7 @@ use Rattle.std.specs.shelf.Lists.{All}
 use Rattle.std.proofs.shelf.Elements.{all-getD}
 use Rattle.std.proofs.shelf.Lists.{drop-set-lt, getD-read, getD-take, length-set}
 use Rattle.rules.specs.Meaning.{Meaning, Lawful}
-use Rattle.rules.specs.Register.{place, Survey, entries, outcome, entered, row, walk, written, of-effects, met-effects}
+use Rattle.rules.specs.Register.{Onward, place, Survey, entries, outcome, entered, row, walk, written, of-effects, met-effects}
 use Rattle.rules.proofs.Registering.{place-here, place-past, place-end, Stands, Answers, front, long, holds-front, row-step, row-off, row-done, walk-step, walk-off, walk-done, walk-longer}
 
 module _ {E : Type 0} (m : Meaning E) (law : Lawful m) where
@@ -66,29 +66,19 @@ module _ {E : Type 0} (m : Meaning E) (law : Lawful m) where
     gives = let e : m .commands - 0 ≡ m .commands = omega arith in ap (λ k. row (of-effects m) k 0 (take n xs) from) e;
   }
 
-  -- `to` is what the command c leads to from an effect of the rule's own
-  pub record Onward (from : E) (c : ℕ) (to : E) : Type 0 where
-    pub known : c < m .commands
-    pub from-own : m .own from
-    pub is : to ≡ m .join from (m .command c)
-    pub own : m .own to
+  pub onward-own : (from : E) (c : ℕ) (to : E) → m .own from → Onward m from c to → m .own to
+  onward-own from c to o step = subst (m .own) (sym (step .is)) (next-own from o c (step .known))
 
-  pub onward : (from : E) (c : ℕ) (x to : E) → m .own from → (c < m .commands) × (x ≡ m .command c) → (m .own from → m .own x → to ≡ m .join from x) → Onward from c to
-  onward from c x to o (lt, e) joins =
-      let own-x : m .own x = subst (m .own) (sym e) (law .own-command c lt) in
-      let is : to ≡ m .join from (m .command c) = joins o own-x ∙ ap (m .join from) e in
-      record { known = lt; from-own = o; is = is; own = subst (m .own) (sym is) (next-own from o c lt) }
-
-  module _ (old xs new : List E) (n c : ℕ) (from to : E) (whole : Survey E) (room : 64 ≤ length old) (step : Onward from c to) (at : Rows old xs n c from whole) where
+  module _ (old xs new : List E) (n c : ℕ) (from to : E) (whole : Survey E) (room : 64 ≤ length old) (own : m .own from) (step : Onward m from c to) (at : Rows old xs n c from whole) where
     same-step : entered (of-effects m) (take n xs) to ≡ entered (of-effects m) (at .reg) (m .join from (m .command c))
     same-step = ap (λ l. entered (of-effects m) l to) (front (m .own) 64 old xs (at .reg) n (at .holds)) ∙ ap (entered (of-effects m) (at .reg)) (step .is)
 
     pub rows-more : (k : ℕ) → Some k ≡ outcome (entered (of-effects m) (take n xs) to) → new ≡ written (entries (entered (of-effects m) (take n xs) to)) xs → Rows old new k (c + 1) from whole
-    rows-more k r w = row-step (of-effects m) (m .own) old xs new n whole room (m .commands) c from (step .known) (next-own from (step .from-own) c (step .known)) at k
+    rows-more k r w = row-step (of-effects m) (m .own) old xs new n whole room (m .commands) c from (step .known) (next-own from own c (step .known)) at k
         (r ∙ ap outcome same-step) (w ∙ ap (λ x. written (entries x) xs) same-step)
 
     pub rows-off : None ≡ outcome (entered (of-effects m) (take n xs) to) → new ≡ written (entries (entered (of-effects m) (take n xs) to)) xs → Answers (of-effects m) old whole new None
-    rows-off r w = row-off (of-effects m) (m .own) old xs new n whole room (m .commands) c from (step .known) (next-own from (step .from-own) c (step .known)) at
+    rows-off r w = row-off (of-effects m) (m .own) old xs new n whole room (m .commands) c from (step .known) (next-own from own c (step .known)) at
         (r ∙ ap outcome same-step) (w ∙ ap (λ x. written (entries x) xs) same-step)
 
   pub rows-end : (old new : List E) (n c : ℕ) (from : E) (whole : Survey E) → m .commands ≤ c → Rows old new n c from whole → Answers (of-effects m) old whole new (Some n)

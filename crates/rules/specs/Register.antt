@@ -1,7 +1,8 @@
 -- The register: what is met, by number, in the order of meeting.
+use mathlib.Core.Path.{_≡_}
 use mathlib.Core.Bool.{Bool, cond}
 use mathlib.Core.List.{List, [], _∷_, _++_, map}
-use Prim.Native.Nat.{ℕ, zero, suc, _+_}
+use Prim.Native.Nat.{ℕ, zero, suc, _+_, _<_}
 use lib.Dec.{ltb}
 use lib.ListN.{length, drop, getD}
 use Rattle.std.specs.declared.option.Option.{Option}
@@ -65,6 +66,11 @@ walk s (suc n) i reg =
 -- what a slice holds that held old, once these entries were written at its front
 abbrev pub written : {E : Type 0} → List E → List E → List E
 written reg old = reg ++ drop (length reg) old
+
+-- `to` is what the command c leads to from the effect `from`
+pub record Onward {E : Type 0} (m : Meaning E) (from : E) (c : ℕ) (to : E) : Type 0 where
+  pub known : c < m .commands
+  pub is : to ≡ m .join from (m .command c)
 
 -- ---- effects, and the lists that lead to them
 

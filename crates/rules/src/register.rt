@@ -5,8 +5,10 @@
 ghost use mathlib.Core.Path.{_≡_};
 ghost use Prim.Native.Nat.{_≤_};
 ghost use lib.ListN.{length, take};
+ghost use Rattle.std.specs.Options.{Cases as BySome};
 ghost use Rattle.std.specs.shelf.Lists.{All};
-ghost use Rattle.rules.specs.Register.{place, entered, row, outcome, entries, written, of-effects, met-effects};
+ghost use Rattle.rules.specs.Register.{Onward, place, entered, row, outcome, entries, written, of-effects, met-effects};
+use crate::rule::Command;
 use crate::rule::OrderRule;
 
 /// How many effects have a number.
@@ -50,6 +52,17 @@ fn enter<R: OrderRule>(
     Some(count + 1)
 }
 
+/// What an effect leads to by one command.
+fn lead<R: OrderRule>(rule: &R, from: R::Effect, c: Command) -> Option<R::Effect>
+    requires { ⌜ R·OrderRule .meaning (now rule) .own from ⌝ }
+    ensures { λ r. ⌜ BySome r (R·OrderRule .meaning (now (rule .entry)) .commands ≤ c) (Onward (R·OrderRule .meaning (now (rule .entry))) from c) ⌝ }
+{
+    match rule.command(c) {
+        Some(effect) => Some(rule.join(from, effect)),
+        None => None,
+    }
+}
+
 /// Enters what the effect `from` leads to by each command.
 fn extend<R: OrderRule>(
     rule: &R,
@@ -66,10 +79,10 @@ fn extend<R: OrderRule>(
 {
     let mut met = count;
     for c in 0..rule.commands() {
-        let Some(effect) = rule.command(c) else {
+        let Some(to) = lead(rule, from, c) else {
             unreachable()
         };
-        met = enter(rule, slice, met, rule.join(from, effect))?;
+        met = enter(rule, slice, met, to)?;
     }
     Some(met)
 }

@@ -2,6 +2,7 @@
 ghost use mathlib.Core.Path.{_≡_};
 ghost use Prim.Native.Nat.{_<_, _≤_};
 ghost use Rattle.rules.specs.Meaning.{Meaning, Lawful};
+ghost use Rattle.std.specs.Options.{Cases as BySome};
 ghost use Rattle.std.specs.declared.option.Option.the-variants.{Some, None};
 
 /// The number of a command; a rule has the commands below its own count.
@@ -25,7 +26,8 @@ pub trait OrderRule {
     /// The effect of one command, or `None` for a number that is none of the rule's commands.
     fn command(&self, c: Command) -> Option<Self::Effect>
         ensures some { λ r. ⌜ (c < meaning (now (self .entry)) .commands → r ≡ Some (meaning (now (self .entry)) .command c)) ⌝ }
-        ensures none { λ r. ⌜ (meaning (now (self .entry)) .commands ≤ c → r ≡ None) ⌝ };
+        ensures none { λ r. ⌜ (meaning (now (self .entry)) .commands ≤ c → r ≡ None) ⌝ }
+        ensures own { λ r. ⌜ BySome r (Unit {0}) (meaning (now (self .entry)) .own) ⌝ };
 
     /// The effect of doing nothing.
     fn neutral(&self) -> Self::Effect
