@@ -2,29 +2,26 @@
 use mathlib.Core.Path.{_≡_, refl, sym, _∙_, ap, subst}
 use mathlib.Core.Bool.{false}
 use mathlib.Core.List.{List, [], map}
-use mathlib.Core.Logic.{⊎-elim}
 use Prim.Native.Nat.{ℕ, _-_, _<_, _≤_}
 use native.Mathlib.Omega.{arith}
 use lib.Dec.{ltb}
 use lib.ListN.{length, getD, take}
 use Rattle.std.specs.declared.option.Option.the-variants.{Some, None}
 use Rattle.std.specs.declared.result.Result.the-variants.{Ok, Err}
-use Rattle.std.specs.shelf.Maps.{nth}
 use Rattle.std.proofs.shelf.Counted.{length-map-counting}
 use Rattle.std.proofs.shelf.Lists.{getD-map, getD-take, length-map, length-take, length-take-le, take-at}
-use Rattle.std.proofs.shelf.Maps.{nth-getD, nth-past}
-use Rattle.std.proofs.shelf.Tests.{and-from, cases-lt, cond-false, cond-true, le-ltb, lt-ltb}
+use Rattle.std.proofs.shelf.Tests.{and-from, cond-false, cond-true, le-ltb, lt-ltb}
 use Rattle.rules.specs.declared.bounded.Bounded.{Bounded}
 use Rattle.rules.specs.declared.effect_set.EffectSet.{EffectSet}
 use Rattle.rules.specs.declared.fault.EffectsFault.the-variants.{TooMany, ShortSlice}
 use Rattle.rules.specs.Behaviours.{behaviour}
 use Rattle.rules.specs.Bounds.{items}
-use Rattle.rules.specs.Lookups.{table-command, table-join}
+use Rattle.rules.specs.Lookups.{table-join}
 use Rattle.rules.specs.Meaning.{Meaning, Lawful, effect}
 use Rattle.rules.specs.Numbering.{Numbered, Exceeds}
 use Rattle.rules.specs.Register.{Survey, complete, overfull, entries, outcome, mapped, met-effects, met-lists, written}
 use Rattle.rules.specs.Surveys.{tabled, tabled-by, slice-after, All-met}
-use Rattle.rules.specs.Tables.{Table, join-of, numbered, effects-table, lists-table}
+use Rattle.rules.specs.Tables.{join-of, numbered, effects-table, lists-table}
 use Rattle.rules.specs.Views.{table-from, Numbers-some}
 use Rattle.rules.proofs.ByLists.{lawful-behaviour, met-by-lists, table-by-lists}
 use Rattle.rules.proofs.Meetings.{Closed, Ends, Overfull, meets}
@@ -32,13 +29,6 @@ use Rattle.rules.proofs.TableNumbers.{numbers, slice-numbered, slice-exceeds}
 use Rattle.rules.proofs.Tabling.{closed-lists}
 
 -- ---- reading
-
-pub command-is : (t : Table) (ns : List ℕ) (c : ℕ) → t .commands ≡ length ns → t .numbers ≡ ns → nth ns c ≡ table-command t c
-command-is t ns c n e =
-    ⊎-elim
-    (λ h. nth-getD ns c 0 h ∙ ap (λ l. Some (getD l c 0)) (sym e) ∙ sym (cond-true (ltb c (t .commands)) (Some (getD (t .numbers) c 0)) None (lt-ltb c (t .commands) (omega arith))))
-    (λ h. nth-past ns c h ∙ sym (cond-false (ltb c (t .commands)) (Some (getD (t .numbers) c 0)) None (le-ltb c (t .commands) (omega arith))))
-    (cases-lt c (length ns))
 
 pub join-is : (count : ℕ) (ns : Bounded ℕ 16) (joins : List (List ℕ)) (s : EffectSet) (i j : ℕ) → count ≤ length joins → i < count → j < count
     → Some (getD (getD joins i []) j 0) ≡ table-join (table-from count ns joins s) i j
