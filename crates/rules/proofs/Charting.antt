@@ -14,8 +14,8 @@ use Rattle.std.proofs.shelf.Bits.{or-lt, mod-below, pow-pos}
 use Rattle.std.proofs.shelf.Lists.{getD-set-same, getD-set-other, length-set}
 use Rattle.std.proofs.shelf.Tests.{eqb-true, eq-eqb, and-parts, and-from, or-cases, or-left, or-right, cases-eq, cases-lt, not-true, not-false, not-from-true, or-from, and-right, ne-eqb}
 use Rattle.std.proofs.shelf.Ways.{decides-eqb, decides-at, decides-like, decides-not, not-from-decides}
-use Rattle.rules.specs.declared.chart.ChartRecord.{ChartRecord}
-use Rattle.rules.specs.declared.chart.ChartRecord.the-variants.{Arrow as arrow, Final as final}
+use Rattle.rules.specs.declared.chart.making.ChartRecord.{ChartRecord}
+use Rattle.rules.specs.declared.chart.making.ChartRecord.the-variants.{Arrow as arrow, Final as final}
 use Rattle.rules.specs.Automata.{record-at, arrow-bytes, final-bytes, Arrow-form, Final-form, Formed, Arrow, Final, Leads, Accepts, Lead-alike}
 use Rattle.rules.specs.Bits.{has, some-below}
 use Rattle.rules.specs.Boxes.{pairs, through, composed, identity, accepting, charted, Drawn, Charts}

@@ -4,8 +4,8 @@ use mathlib.Core.List.{List}
 use Prim.Native.Nat.{ℕ, _+_, _*_, _^_, _<_}
 use lib.Bits.{bitOr}
 use lib.ListN.{getD, set}
-use Rattle.rules.specs.declared.chart.ChartRecord.{ChartRecord}
-use Rattle.rules.specs.declared.chart.ChartRecord.the-variants.{Arrow, Final}
+use Rattle.rules.specs.declared.chart.making.ChartRecord.{ChartRecord}
+use Rattle.rules.specs.declared.chart.making.ChartRecord.the-variants.{Arrow, Final}
 use Rattle.rules.specs.Automata.{Arrow-form, Final-form}
 
 abbrev pub Reads : List ℕ → ChartRecord → Type 0

@@ -1,15 +1,14 @@
 //! Counts: each command has a weight, and a list is judged by the sum of its weights modulo m.
-ghost use mathlib.Core.Path.{_≡_};
 ghost use Prim.Native.Nat.{_≤_};
 ghost use lib.ListN.{length};
-ghost use Rattle.std.specs.Results.{Cases as ByOk};
 ghost use Rattle.rules.specs.Bounds.{items};
-ghost use Rattle.rules.specs.Counting.{counted, Counts, Modular, Residues, Countable, Uncountable};
+ghost use Rattle.rules.specs.Counting.{counted, Modular, Residues};
 ghost use Rattle.rules.specs.laws.Counting.{counted-lawful};
 use crate::bounded::Bounded;
-use crate::fault::RuleFault;
 use crate::rule::Command;
 use crate::rule::OrderRule;
+
+mod making;
 
 /// A sum of weights modulo the count's modulus.
 pub type Residue = u8;
@@ -23,36 +22,6 @@ pub struct Count {
     ghost modular: { Modular modulus },
     ghost some: { 1 ≤ length (items weights) },
     ghost residues: { Residues modulus (items weights) (length (items weights)) },
-}
-
-impl Count {
-    /// A count from its modulus, one weight for each command, and the mask of permitted residues.
-    pub fn new(modulus: u8, weights: &[u8], permitted: u64) -> Result<Count, RuleFault>
-        ensures made { λ r. ⌜ ByOk r (λ x. Countable modulus (now (weights .entry)) permitted × Counts modulus (now (weights .entry)) permitted (counted (x .modulus) (items (x .weights)) (x .permitted))) (λ f. Uncountable modulus (now (weights .entry)) permitted f) ⌝ }
-    {
-        if modulus == 0 || modulus > 64 {
-            return Err(RuleFault::Modulus);
-        }
-        let Some(kept) = Bounded::<u8, 16>::from_slice(weights, 0) else {
-            return Err(RuleFault::WeightCount);
-        };
-        if weights.is_empty() {
-            return Err(RuleFault::WeightCount);
-        }
-        for (i, weight) in weights.iter().enumerate() {
-            if *weight >= modulus {
-                return Err(RuleFault::Weight(i as u8));
-            }
-        }
-        if modulus < 64 && permitted >> modulus != 0 {
-            return Err(RuleFault::Mask);
-        }
-        Ok(Count {
-            modulus,
-            weights: kept,
-            permitted,
-        })
-    }
 }
 
 pub impl OrderRule for Count as CountOrderRule {

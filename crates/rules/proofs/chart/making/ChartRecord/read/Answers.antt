@@ -4,7 +4,7 @@ use lib.ListN.{getD}
 use Rattle.std.proofs.shelf.Tests.{ltb-true, ltb-false}
 use Rattle.rules.specs.Automata.{arrow-bytes, final-bytes}
 use Rattle.rules.proofs.ChartBytes.{by-places}
-use Rattle.rules.proofs.chart.ChartRecord.read.Needs as need
+use Rattle.rules.proofs.chart.making.ChartRecord.read.Needs as need
 
 pub returns-in-0 : need.returns-in-0
 returns-in-0 c =
