@@ -1,7 +1,7 @@
 -- What the judge reports of a chart's bytes and, if there is one, a list of commands.
 use mathlib.Core.Path.{_≡_}
 use mathlib.Core.List.{List, [], _++_}
-use Prim.Native.Nat.{ℕ, _<_}
+use Prim.Native.Nat.{ℕ, _<_, _≤_}
 use denote.Ref.{RefT, now}
 use lib.Chars.{codes}
 use lib.ListN.{length, getD}
@@ -57,6 +57,7 @@ pub record Reports (bytes : List ℕ) (list : Option (List ℕ)) (r : Report) : 
   pub table : Table
   pub numbers : Numbers rule table
   pub effects : r .effects ≡ table .count
+  pub few : r .effects ≤ 64
   pub breaking : r .breaking .bits ≡ table .breaking
   pub said : Said-if bytes list (r .judgement)
 

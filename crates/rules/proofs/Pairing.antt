@@ -7,8 +7,11 @@ use Prim.Native.Nat.{ℕ, min, _<_}
 use native.Mathlib.Omega.{arith}
 use Rattle.std.proofs.shelf.Tests.{or-parts, or-from, or-cases, or-left, or-right}
 use Rattle.std.proofs.shelf.Elements.{all-weaker}
+use Rattle.rules.specs.declared.lists.Judgement.{Judgement}
+use Rattle.rules.specs.declared.lists.Judgement.the-variants.{Permitted as permitted, Forbidden as forbidden, Neither as neither}
+use Rattle.rules.specs.Judgements.{Judged}
 use Rattle.rules.specs.Meaning.{Meaning, Below, effect, Forbidden}
-use Rattle.rules.specs.Pairs.{paired, Permits-both}
+use Rattle.rules.specs.Pairs.{paired, Permits-both, Judged-both}
 
 below-both : (m n : ℕ) (w : List ℕ) → Below m w → Below n w → Below (min m n) w
 below-both m n [] p q = tt
@@ -51,3 +54,8 @@ module _ {A B : Type 0} (a : Meaning A) (b : Meaning B) where
       )),
     );
   }
+
+  pub judged-both : (w : List ℕ) (j : Judgement) → Judged (paired a b) w j → Judged-both a b w j
+  judged-both w permitted h = permits-both .permitted w .0 h
+  judged-both w forbidden h = permits-both .forbidden w .0 h
+  judged-both w neither h = λ k. h (below-both (a .commands) (b .commands) w (k .0) (k .1))

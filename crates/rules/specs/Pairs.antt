@@ -3,6 +3,8 @@ use mathlib.Core.Bool.{_||_, _&&_}
 use mathlib.Core.List.{List}
 use mathlib.Core.Logic.{_↔_, _⊎_}
 use Prim.Native.Nat.{ℕ, min}
+use Rattle.rules.specs.declared.lists.Judgement.{Judgement}
+use Rattle.rules.specs.declared.lists.Judgement.the-variants.{Permitted as permitted, Forbidden as forbidden, Neither as neither}
 use Rattle.rules.specs.Meaning.{Meaning, Below, Permitted, Forbidden}
 
 abbrev pub paired : {A B : Type 0} → Meaning A → Meaning B → Meaning (A × B)
@@ -20,3 +22,9 @@ paired a b = record {
 pub record Permits-both {A B P : Type 0} (a : Meaning A) (b : Meaning B) (p : Meaning P) : Type 0 where
   pub permitted : (w : List ℕ) → Permitted p w ↔ (Permitted a w × Permitted b w)
   pub forbidden : (w : List ℕ) → Forbidden p w ↔ (Below (a .commands) w × Below (b .commands) w × (Forbidden a w ⊎ Forbidden b w))
+
+-- what is said of a list by both parts
+abbrev pub Judged-both : {A B : Type 0} → Meaning A → Meaning B → List ℕ → Judgement → Type 0
+Judged-both a b w permitted = Permitted a w × Permitted b w
+Judged-both a b w forbidden = Below (a .commands) w × Below (b .commands) w × (Forbidden a w ⊎ Forbidden b w)
+Judged-both a b w neither = (Below (a .commands) w × Below (b .commands) w) → ⊥

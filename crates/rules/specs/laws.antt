@@ -1,4 +1,4 @@
--- Laws that the ghost members and fields of the code hand out: they are proofs, and stand beside the definitions so that contracts can cite them.
+-- Proofs that stand beside the definitions, since ghost members and fields of the code hand them out or rest on them: the laws of each kind of rule, of binary digits, and of sets of numbers.
 pub mod Bits
 pub mod Bounds
 pub mod Boxes

@@ -14,12 +14,13 @@ ghost use Rattle.std.specs.declared.option.Option.the-variants.{Some, None};
 use std::fmt;
 use std::fmt::Display;
 
+/// The number of an effect in a table.
 pub type EffectNumber = u8;
 
 /// How many effect numbers have a place in a set.
 const PLACES: EffectNumber = 64;
 
-/// A set of effect numbers: bit `k` is set exactly for a member `k`.
+/// A set of effect numbers: bit `k` is set exactly for a member `k`. Sets compare as numbers do.
 #[derive(Clone, Copy, Eq, PartialOrd, Ord)]
 pub struct EffectSet {
     bits: u64,

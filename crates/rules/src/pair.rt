@@ -1,7 +1,9 @@
 //! Two order rules side by side: a list must keep both.
 ghost use mathlib.Core.Path.{_≡_};
-ghost use Rattle.rules.specs.Pairs.{paired, Permits-both};
+ghost use Rattle.rules.specs.Pairs.{paired, Permits-both, Judged-both};
 ghost use Rattle.rules.specs.laws.Pairs.{paired-lawful};
+use crate::lists;
+use crate::lists::Judgement;
 use crate::rule::Command;
 use crate::rule::OrderRule;
 
@@ -18,6 +20,13 @@ impl<A: OrderRule, B: OrderRule> Pair<A, B> {
         ensures permits { λ r. ⌜ Permits-both (A·OrderRule .meaning first) (B·OrderRule .meaning second) (paired (A·OrderRule .meaning (r .first)) (B·OrderRule .meaning (r .second))) ⌝ }
     {
         Pair { first, second }
+    }
+
+    /// What both parts say of a list.
+    pub fn judge(&self, list: &[Command]) -> Judgement
+        ensures { λ r. ⌜ Judged-both (A·OrderRule .meaning (now (self .entry) .first)) (B·OrderRule .meaning (now (self .entry) .second)) (now (list .entry)) r ⌝ }
+    {
+        lists::judge(self, list)
     }
 }
 

@@ -1,7 +1,7 @@
 //! The register: effects of any kind, numbered in the order in which they are met.
 //!
-//! The caller's slice holds the effects at its front. These functions are handed that slice and
-//! how many effects it holds.
+//! The caller's slice holds the effects at its front. The functions are handed that slice, or the
+//! part of it that is in use.
 ghost use mathlib.Core.Path.{_≡_};
 ghost use Prim.Native.Nat.{_≤_};
 ghost use lib.ListN.{length, take};

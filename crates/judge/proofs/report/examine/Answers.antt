@@ -33,6 +33,7 @@ returns c =
       table = view (c .in-Continue-table .table);
       numbers = s .1 .numbers;
       effects = c .effects .ensures;
+      few = omega (arith, c .effects .ensures, c .in-Continue-table .table .few);
       breaking = c .breaking .ensures;
       said = elim (c .match-list .came) [
         | in-Some w ↦ subst (λ o. Said-if bytes (held o) (c .match-list .judgement)) (sym (w .in-Some .is))
