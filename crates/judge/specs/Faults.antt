@@ -1,5 +1,5 @@
 -- A refusal keeps its number, layer and place on the way up.
-use Rattle.rules.specs.declared.fault.Refusal.{Refusal}
+use Rattle.foundation.specs.declared.refusal.Refusal.{Refusal}
 use Rattle.rules.specs.Refusals.{rule-refusal, effects-refusal}
 use Rattle.judge.specs.declared.fault.JudgeFault.{JudgeFault}
 use Rattle.judge.specs.declared.fault.JudgeFault.the-variants.{Rule, Effects}

@@ -2,8 +2,8 @@
 ghost use mathlib.Core.Path.{_≡_};
 ghost use Rattle.judge.specs.declared.fault.JudgeFault.the-variants.{Rule, Effects};
 ghost use Rattle.judge.specs.Faults.{judge-refusal};
+use foundation::refusal::Refusal;
 use rules::fault::EffectsFault;
-use rules::fault::Refusal;
 use rules::fault::RuleFault;
 
 #[derive(Clone, Copy)]

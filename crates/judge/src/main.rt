@@ -7,7 +7,7 @@ mod report;
 use crate::files::read_front;
 use crate::report::ReportDisplay;
 use crate::report::examine;
-use rules::fault::RefusalDisplay;
+use foundation::refusal::RefusalDisplay;
 use std::io;
 
 fn main(rt: LibcRuntime) -> io::Result<()> {

@@ -14,11 +14,11 @@ use Rattle.std.proofs.shelf.Elements.{all-getD, all-push, all-append}
 use Rattle.std.proofs.shelf.Lists.{getD-map, length-map, map-push}
 use Rattle.std.proofs.shelf.Tests.{ltb-true}
 use Rattle.rules.specs.Behaviours.{behaviour, LawfulBehaviour}
-use Rattle.rules.specs.Bits.{number}
+use Rattle.foundation.specs.Bits.{number}
 use Rattle.rules.specs.Meaning.{Meaning, Lawful, Below, effect}
 use Rattle.rules.specs.Register.{Scheme, Survey, complete, overfull, entries, then-on, mapped, place, entered-at, entered, row, walk, of-effects, of-lists, met-effects, met-lists}
 use Rattle.rules.specs.Tables.{numbered, found, join-row, breaking-set, effects-table, lists-table}
-use Rattle.rules.specs.laws.Bits.{number-ext}
+use Rattle.foundation.specs.laws.Bits.{number-ext}
 use Rattle.rules.proofs.Effects.{effect-own, effect-append, effect-push}
 use Rattle.rules.proofs.Registering.{row-grows}
 

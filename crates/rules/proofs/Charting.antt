@@ -17,11 +17,11 @@ use Rattle.std.proofs.shelf.Ways.{decides-eqb, decides-at, decides-like, decide
 use Rattle.rules.specs.declared.chart.making.ChartRecord.{ChartRecord}
 use Rattle.rules.specs.declared.chart.making.ChartRecord.the-variants.{Arrow as arrow, Final as final}
 use Rattle.rules.specs.Automata.{record-at, arrow-bytes, final-bytes, Arrow-form, Final-form, Formed, Arrow, Final, Leads, Accepts, Lead-alike}
-use Rattle.rules.specs.Bits.{has, some-below}
+use Rattle.foundation.specs.Bits.{has, some-below}
 use Rattle.rules.specs.Boxes.{pairs, through, composed, identity, accepting, charted, Drawn, Charts}
 use Rattle.rules.specs.ChartRecords.{Reads, drawn-boxes, drawn-finals}
 use Rattle.rules.specs.Meaning.{Below, effect}
-use Rattle.rules.specs.laws.Bits.{same-tests, has-or, has-pow, some-is, some-more, bit-test}
+use Rattle.foundation.specs.laws.Bits.{same-tests, has-or, has-pow, some-is, some-more, bit-test}
 use Rattle.rules.specs.laws.Boxes.{between, pairs-composed, pairs-identity, box-ext, charted-lawful}
 use Rattle.rules.proofs.Effects.{effect-own}
 

@@ -11,8 +11,8 @@ use Rattle.std.specs.Options.{Cases}
 use Rattle.std.specs.declared.option.Option.{Option}
 use Rattle.std.specs.shelf.Maps.{nth}
 use Rattle.std.proofs.shelf.Maps.{nth-getD, nth-past}
-use Rattle.rules.specs.Bits.{has}
-use Rattle.rules.specs.laws.Bits.{has-shr, has-zero, has-above, some-bit}
+use Rattle.foundation.specs.Bits.{has}
+use Rattle.foundation.specs.laws.Bits.{has-shr, has-zero, has-above, some-bit}
 use Rattle.rules.specs.Counting.{counted, total, Counts, Masks, Residues}
 use Rattle.rules.specs.Meaning.{effect}
 

@@ -6,9 +6,9 @@ use native.Mathlib.Omega.{arith}
 use lib.Bits.{bitAnd, bitOr, mask-lt, or-shifted-r}
 use Rattle.std.proofs.shelf.Bits.{and-mask, or-lt, shl-whole}
 use Rattle.std.proofs.shelf.Tests.{eq-eqb, ne-eqb, both-ways}
-use Rattle.rules.specs.Bits.{has, some-below, number}
+use Rattle.foundation.specs.Bits.{has, some-below, number}
 use Rattle.rules.specs.Boxes.{pairs, through}
-use Rattle.rules.specs.laws.Bits.{some-none, some-more, has-zero, has-or, has-shr, has-mod, number-cat, number-ext, number-has, number-lt}
+use Rattle.foundation.specs.laws.Bits.{some-none, some-more, has-zero, has-or, has-shr, has-mod, number-cat, number-ext, number-has, number-lt}
 
 tests-yes : (x y z s : Bool) → x ≡ s → z ≡ true → (x || y) ≡ ((z && y) || s)
 tests-yes true true true true e f = refl

@@ -16,12 +16,12 @@ use Rattle.std.proofs.shelf.Lists.{append-assoc, append-nil, getD-map, length-m
 use Rattle.std.proofs.shelf.Maps.{nth-getD}
 use Rattle.std.proofs.shelf.Tests.{both-ways, cases-order}
 use Rattle.rules.specs.Behaviours.{Behaviour, LawfulBehaviour, behaviour}
-use Rattle.rules.specs.Bits.{has, number}
+use Rattle.foundation.specs.Bits.{has, number}
 use Rattle.rules.specs.Meaning.{Meaning, Lawful, Below, effect}
 use Rattle.rules.specs.Numbering.{Numbers, Meeting, Before, Numbered, Exceeds}
 use Rattle.rules.specs.Register.{place, written}
 use Rattle.rules.specs.Tables.{found, numbered, join-row, lists-table, join-of}
-use Rattle.rules.specs.laws.Bits.{has-number, has-above, number-lt}
+use Rattle.foundation.specs.laws.Bits.{has-number, has-above, number-lt}
 use Rattle.rules.proofs.ByLists.{same-effect, effect-same, lawful-behaviour}
 use Rattle.rules.proofs.Meetings.{Placed, placed, Known, Closed, Overfull}
 

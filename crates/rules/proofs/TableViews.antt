@@ -11,11 +11,11 @@ use Rattle.std.specs.declared.result.Result.the-variants.{Ok, Err}
 use Rattle.std.proofs.shelf.Counted.{length-map-counting}
 use Rattle.std.proofs.shelf.Lists.{getD-map, getD-take, length-map, length-take, length-take-le, take-at}
 use Rattle.std.proofs.shelf.Tests.{and-from, cond-false, cond-true, le-ltb, lt-ltb}
-use Rattle.rules.specs.declared.bounded.Bounded.{Bounded}
-use Rattle.rules.specs.declared.effect_set.EffectSet.{EffectSet}
+use Rattle.foundation.specs.declared.bounded.Bounded.{Bounded}
+use Rattle.foundation.specs.declared.effect_set.EffectSet.{EffectSet}
 use Rattle.rules.specs.declared.fault.EffectsFault.the-variants.{TooMany, ShortSlice}
 use Rattle.rules.specs.Behaviours.{behaviour}
-use Rattle.rules.specs.Bounds.{items}
+use Rattle.foundation.specs.Bounds.{items}
 use Rattle.rules.specs.Lookups.{table-join}
 use Rattle.rules.specs.Meaning.{Meaning, Lawful, effect}
 use Rattle.rules.specs.Numbering.{Numbered, Exceeds}

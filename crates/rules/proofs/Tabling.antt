@@ -16,12 +16,12 @@ use Rattle.std.proofs.shelf.Elements.{all-append, all-getD, all-map, all-weaker
 use Rattle.std.proofs.shelf.Lists.{getD-map, getD-read, length-map, map-more, map-push, take-more-set}
 use Rattle.std.proofs.shelf.Tests.{both-ways, cond-true, lt-ltb}
 use Rattle.rules.specs.Behaviours.{behaviour}
-use Rattle.rules.specs.Bits.{number}
+use Rattle.foundation.specs.Bits.{number}
 use Rattle.rules.specs.Meaning.{Meaning, Lawful, Below, effect}
 use Rattle.rules.specs.Register.{complete, place, met-lists}
-use Rattle.rules.specs.Sets.{added}
+use Rattle.foundation.specs.Sets.{added}
 use Rattle.rules.specs.Surveys.{All-met}
-use Rattle.rules.specs.laws.Bits.{number-lt}
+use Rattle.foundation.specs.laws.Bits.{number-lt}
 use Rattle.rules.proofs.ByLists.{lawful-behaviour, place-map}
 use Rattle.rules.proofs.Effects.{effect-own, effect-append}
 use Rattle.rules.proofs.Meetings.{Placed, placed, Closed, Ends, meets}

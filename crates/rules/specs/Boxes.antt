@@ -8,7 +8,7 @@ use lib.Dec.{eqb}
 use lib.ListN.{getD}
 use Rattle.std.specs.Orderings.{Decides}
 use Rattle.rules.specs.Automata.{Arrow, Final, Leads, Accepts, Lead-alike}
-use Rattle.rules.specs.Bits.{has, some-below, number}
+use Rattle.foundation.specs.Bits.{has, some-below, number}
 use Rattle.rules.specs.Meaning.{Meaning, Below, effect, Permitted, Forbidden}
 
 -- the box a has the pair (p, q)

@@ -8,7 +8,7 @@ use lib.Dec.{eqb}
 use lib.ListN.{length, getD}
 use Rattle.rules.specs.declared.fault.RuleFault.{RuleFault}
 use Rattle.rules.specs.declared.fault.RuleFault.the-variants.{ChartLength, ChartRecord, Modulus, WeightCount, Weight, Mask}
-use Rattle.rules.specs.Bits.{has}
+use Rattle.foundation.specs.Bits.{has}
 use Rattle.rules.specs.Meaning.{Meaning, Below, effect, Permitted}
 
 abbrev pub counted : ℕ → List ℕ → ℕ → Meaning ℕ

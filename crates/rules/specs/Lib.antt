@@ -1,7 +1,5 @@
 pub mod Automata
 pub mod Behaviours
-pub mod Bits
-pub mod Bounds
 pub mod Boxes
 pub mod ChartRecords
 pub mod Counting
@@ -12,7 +10,6 @@ pub mod Numbering
 pub mod Pairs
 pub mod Refusals
 pub mod Register
-pub mod Sets
 pub mod Surveys
 pub mod Tables
 pub mod Views

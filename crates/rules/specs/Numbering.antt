@@ -9,7 +9,7 @@ use Rattle.std.specs.declared.option.Option.the-variants.{Some}
 use Rattle.std.specs.shelf.Lists.{All}
 use Rattle.std.specs.shelf.Maps.{nth}
 use Rattle.rules.specs.Behaviours.{Behaviour, behaviour}
-use Rattle.rules.specs.Bits.{has}
+use Rattle.foundation.specs.Bits.{has}
 use Rattle.rules.specs.Meaning.{Meaning, Below, effect}
 use Rattle.rules.specs.Tables.{Table, number-of, join-of}
 

@@ -1,11 +1,8 @@
 -- How each fault is told outside: number, layer and place, case by case.
-use mathlib.Core.List.{List, _++_}
-use Prim.Native.Nat.{ℕ, _+_}
-use lib.Chars.{codes}
-use Rattle.std.specs.Written.{decimal}
-use Rattle.rules.specs.declared.fault.Layer.{Layer}
-use Rattle.rules.specs.declared.fault.Layer.the-variants.{Rule, Effects}
-use Rattle.rules.specs.declared.fault.Refusal.{Refusal}
+use Prim.Native.Nat.{_+_}
+use Rattle.foundation.specs.declared.refusal.Layer.{Layer}
+use Rattle.foundation.specs.declared.refusal.Layer.the-variants.{Rule, Effects}
+use Rattle.foundation.specs.declared.refusal.Refusal.{Refusal}
 use Rattle.rules.specs.declared.fault.RuleFault.{RuleFault}
 use Rattle.rules.specs.declared.fault.RuleFault.the-variants.{ChartLength, ChartRecord, Modulus, WeightCount, Weight, Mask}
 use Rattle.rules.specs.declared.fault.EffectsFault.{EffectsFault}
@@ -22,12 +19,3 @@ rule-refusal Mask = record { number = 5; layer = Rule; place = 18 }
 abbrev pub effects-refusal : EffectsFault → Refusal
 effects-refusal TooMany = record { number = 6; layer = Effects; place = 64 }
 effects-refusal (ShortSlice entries) = record { number = 7; layer = Effects; place = entries }
-
--- ---- as text
-
-abbrev pub layer-name : Layer → List ℕ
-layer-name Rule = codes "rule"
-layer-name Effects = codes "effects"
-
-abbrev pub refusal-text : Refusal → List ℕ
-refusal-text r = codes "refused " ++ (decimal (r .number) ++ (codes " " ++ (layer-name (r .layer) ++ (codes " " ++ decimal (r .place)))))

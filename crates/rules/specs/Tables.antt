@@ -7,7 +7,7 @@ use Rattle.std.specs.Iters.{counting}
 use Rattle.std.specs.declared.option.Option.{Option}
 use Rattle.std.specs.declared.option.Option.the-variants.{Some, None}
 use Rattle.rules.specs.Behaviours.{Behaviour}
-use Rattle.rules.specs.Bits.{number}
+use Rattle.foundation.specs.Bits.{number}
 use Rattle.rules.specs.Meaning.{Meaning}
 use Rattle.rules.specs.Register.{place}
 

@@ -2,10 +2,10 @@
 use mathlib.Core.List.{List, map}
 use Prim.Native.Nat.{ℕ}
 use lib.ListN.{length, take}
-use Rattle.rules.specs.declared.bounded.Bounded.{Bounded}
-use Rattle.rules.specs.declared.effect_set.EffectSet.{EffectSet}
+use Rattle.foundation.specs.declared.bounded.Bounded.{Bounded}
+use Rattle.foundation.specs.declared.effect_set.EffectSet.{EffectSet}
 use Rattle.rules.specs.Behaviours.{Behaviour, LawfulBehaviour}
-use Rattle.rules.specs.Bounds.{items}
+use Rattle.foundation.specs.Bounds.{items}
 use Rattle.rules.specs.Numbering.{Numbers}
 use Rattle.rules.specs.Tables.{Table}
 

@@ -2,7 +2,7 @@
 ghost use mathlib.Core.Path.{_≡_};
 ghost use Prim.Native.Nat.{ℕ, _<_, _^_};
 ghost use lib.ListN.{getD};
-ghost use Rattle.rules.specs.Bits.{has};
+ghost use Rattle.foundation.specs.Bits.{has};
 ghost use Rattle.rules.specs.Boxes.{through, composed, accepting, charted};
 ghost use Rattle.rules.specs.laws.Boxes.{charted-lawful};
 use crate::rule::Command;

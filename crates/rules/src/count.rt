@@ -1,12 +1,12 @@
 //! Counts: each command has a weight, and a list is judged by the sum of its weights modulo m.
 ghost use Prim.Native.Nat.{_≤_};
 ghost use lib.ListN.{length};
-ghost use Rattle.rules.specs.Bounds.{items};
+ghost use Rattle.foundation.specs.Bounds.{items};
 ghost use Rattle.rules.specs.Counting.{counted, Modular, Residues};
 ghost use Rattle.rules.specs.laws.Counting.{counted-lawful};
-use crate::bounded::Bounded;
 use crate::rule::Command;
 use crate::rule::OrderRule;
+use foundation::bounded::Bounded;
 
 mod making;
 

@@ -1,48 +1,8 @@
 //! Refusals: what was wrong, and how it is told outside, by number, layer and place.
 ghost use mathlib.Core.Path.{_≡_};
-ghost use mathlib.Core.List.{_++_};
-ghost use lib.Chars.{codes};
-ghost use Rattle.std.specs.Written.{decimal};
-ghost use Rattle.std.specs.declared.option.Option.the-variants.{Some};
-ghost use Rattle.rules.specs.Refusals.{layer-name, refusal-text, rule-refusal, effects-refusal};
-use std::fmt;
-
-/// The part of the solver that refused.
-#[derive(Clone, Copy, PartialEq, Eq, Debug)]
-pub enum Layer {
-    Rule,
-    Effects,
-}
-
-pub impl fmt::Display for Layer as LayerDisplay {
-    ghost shown = { λ l. Some (layer-name l) };
-
-    fn fmt<W: fmt::Write>(&self, f: &mut fmt::Formatter<W>) -> fmt::Result {
-        match self {
-            Layer::Rule => write!(f, "rule"),
-            Layer::Effects => write!(f, "effects"),
-        }
-    }
-}
-
-/// A refusal as it is told outside.
-#[derive(Clone, Copy, PartialEq, Eq, Debug)]
-pub struct Refusal {
-    pub number: u8,
-    pub layer: Layer,
-    pub place: usize,
-}
-
-pub impl fmt::Display for Refusal as RefusalDisplay {
-    ghost shown = { λ r. Some (refusal-text r) };
-
-    fn fmt<W: fmt::Write>(&self, f: &mut fmt::Formatter<W>) -> fmt::Result {
-        let number = self.number;
-        let layer = self.layer;
-        let place = self.place;
-        write!(f, "refused {number} {layer} {place}")
-    }
-}
+ghost use Rattle.rules.specs.Refusals.{rule-refusal, effects-refusal};
+use foundation::refusal::Layer;
+use foundation::refusal::Refusal;
 
 /// Why a rule was not made.
 #[derive(Clone, Copy)]

@@ -1,9 +1,9 @@
 //! The effect table: what is known of a rule once its effects have numbers.
 ghost use Prim.Native.Nat.{_≤_};
 ghost use Rattle.rules.specs.Views.{table-from, Numbers-some};
-use crate::bounded::Bounded;
-use crate::effect_set::EffectNumber;
-use crate::effect_set::EffectSet;
+use foundation::bounded::Bounded;
+use foundation::effect_set::EffectNumber;
+use foundation::effect_set::EffectSet;
 
 mod lookup;
 mod making;

@@ -1,5 +1,5 @@
 //! Why a case has no outcome.
-use rules::fault::Refusal;
+use foundation::refusal::Refusal;
 use rules::fault::RuleFault;
 use std::alloc::AllocError;
 use std::alloc::Refused;

@@ -7,7 +7,7 @@ use crate::case::Case;
 use crate::fault::Fault;
 use crate::trial::Outcome;
 use crate::trial::OutcomeDisplay;
-use rules::fault::RefusalDisplay;
+use foundation::refusal::RefusalDisplay;
 use std::alloc::Global;
 use std::error::AnyError;
 use std::io::BufRead;

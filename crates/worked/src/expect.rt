@@ -1,7 +1,7 @@
 //! What the examples share.
-use rules::effect_set::EffectSetDisplay;
-use rules::fault::Layer;
-use rules::fault::Refusal;
+use foundation::effect_set::EffectSetDisplay;
+use foundation::refusal::Layer;
+use foundation::refusal::Refusal;
 use rules::fault::RefusalDebug;
 use rules::fault::RefusalPartialEq;
 use rules::fault::RuleFault;

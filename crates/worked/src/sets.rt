@@ -1,8 +1,8 @@
 //! Sets of effect numbers.
-use rules::effect_set::EffectSet;
-use rules::effect_set::EffectSetDisplay;
-use rules::effect_set::EffectSetPartialEq;
-use rules::effect_set::EffectSetPartialOrd;
+use foundation::effect_set::EffectSet;
+use foundation::effect_set::EffectSetDisplay;
+use foundation::effect_set::EffectSetPartialEq;
+use foundation::effect_set::EffectSetPartialOrd;
 use std::test::*;
 
 #[test]

@@ -2,10 +2,10 @@
 use crate::expect::fault;
 use crate::expect::made;
 use crate::expect::table_of;
+use foundation::refusal::Layer;
+use foundation::refusal::Refusal;
 use rules::count::Count;
 use rules::count::CountOrderRule;
-use rules::fault::Layer;
-use rules::fault::Refusal;
 use rules::fault::RefusalDebug;
 use rules::fault::RefusalPartialEq;
 use rules::pair::Pair;

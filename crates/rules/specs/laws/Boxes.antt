@@ -9,10 +9,10 @@ use lib.ListN.{getD}
 use Rattle.std.specs.Orderings.{Decides}
 use Rattle.std.proofs.shelf.Tests.{eqb-true, eq-eqb, and-parts, and-from}
 use Rattle.std.proofs.shelf.Ways.{decides-eqb}
-use Rattle.rules.specs.Bits.{has, number}
+use Rattle.foundation.specs.Bits.{has, number}
 use Rattle.rules.specs.Boxes.{pairs, through, composed, identity, charted}
 use Rattle.rules.specs.Meaning.{Lawful}
-use Rattle.rules.specs.laws.Bits.{same-tests, some-is, has-number, number-lt, number-ext, number-has}
+use Rattle.foundation.specs.laws.Bits.{same-tests, some-is, has-number, number-lt, number-ext, number-has}
 
 -- a state between p and q by the two boxes
 abbrev Between : ℕ → ℕ → ℕ → ℕ → Type 0

@@ -6,11 +6,11 @@ use native.Mathlib.Nat.{mod-add-mod, add-mod-mod, add-assoc, mod-eq-of-lt, add-z
 use lib.ListN.{length}
 use Rattle.std.proofs.shelf.Bits.{mod-below}
 use Rattle.std.proofs.shelf.Ways.{decides-eqb}
-use Rattle.rules.specs.declared.bounded.Bounded.{Bounded}
-use Rattle.rules.specs.Bounds.{items}
+use Rattle.foundation.specs.declared.bounded.Bounded.{Bounded}
+use Rattle.foundation.specs.Bounds.{items}
 use Rattle.rules.specs.Counting.{counted, Modular, Residues}
 use Rattle.rules.specs.Meaning.{Lawful}
-use Rattle.rules.specs.laws.Bounds.{length-items}
+use Rattle.foundation.specs.laws.Bounds.{length-items}
 
 pub counted-lawful : (m : ℕ) (weights : Bounded ℕ 16) (mask : ℕ) → Modular m → 1 ≤ length (items weights) → Residues m (items weights) (length (items weights)) → Lawful (counted m (items weights) mask)
 counted-lawful m weights mask modular some residues = record {

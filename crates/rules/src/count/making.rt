@@ -2,9 +2,9 @@
 ghost use Rattle.std.specs.Results.{Cases as ByOk};
 ghost use Rattle.rules.specs.Counting.{Counts, Countable, Uncountable};
 ghost use Rattle.rules.specs.contracts.count.CountOrderRule.the-impl.{ghosts};
-use crate::bounded::Bounded;
 use crate::count::Count;
 use crate::fault::RuleFault;
+use foundation::bounded::Bounded;
 
 impl Count {
     /// A count from its modulus, one weight for each command, and the mask of permitted residues.

@@ -2,10 +2,10 @@
 ghost use mathlib.Core.Path.{_≡_};
 ghost use Rattle.rules.specs.Lookups.{table-command, table-join};
 ghost use Rattle.rules.specs.Surveys.{view};
-use crate::effect_set::EffectNumber;
-use crate::effect_set::EffectSet;
 use crate::rule::Command;
 use crate::table::EffectTable;
+use foundation::effect_set::EffectNumber;
+use foundation::effect_set::EffectSet;
 
 impl EffectTable {
     /// How many effects there are; their numbers are those below.

@@ -7,19 +7,19 @@ ghost use lib.ListN.{length, take};
 ghost use Rattle.std.specs.Options.{isSome};
 ghost use Rattle.std.specs.shelf.Lists.{All};
 ghost use Rattle.rules.specs.Behaviours.{behaviour};
-ghost use Rattle.rules.specs.Bounds.{items};
+ghost use Rattle.foundation.specs.Bounds.{items};
 ghost use Rattle.rules.specs.Register.{place};
 ghost use Rattle.rules.specs.Surveys.{viewed, tabled, slice-after, Surveyed, All-met};
 ghost use Rattle.rules.specs.Tables.{numbered, join-row, effects-table};
-use crate::bounded::Bounded;
-use crate::effect_set::EffectNumber;
-use crate::effect_set::EffectSet;
 use crate::fault::EffectsFault;
 use crate::register::ROOM;
 use crate::register::find;
 use crate::register::register;
 use crate::rule::OrderRule;
 use crate::table::EffectTable;
+use foundation::bounded::Bounded;
+use foundation::effect_set::EffectNumber;
+use foundation::effect_set::EffectSet;
 
 impl EffectTable {
     /// Numbers the effects of a rule in the order in which they are met. The slice receives them

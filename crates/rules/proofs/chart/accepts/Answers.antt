@@ -3,9 +3,9 @@ use mathlib.Core.Bool.{false}
 use native.Mathlib.Omega.{arith}
 use lib.ListN.{getD}
 use Rattle.std.proofs.shelf.Tests.{and-left}
-use Rattle.rules.specs.Bits.{some-below}
+use Rattle.foundation.specs.Bits.{some-below}
 use Rattle.rules.specs.Boxes.{pairs}
-use Rattle.rules.specs.laws.Bits.{some-none}
+use Rattle.foundation.specs.laws.Bits.{some-none}
 use Rattle.rules.proofs.Charting.{Ends-at, ends-here, ends-more, no-bit}
 use Rattle.rules.proofs.chart.accepts.Needs as need
 use Rattle.rules.proofs.chart.accepts.Needs.{else-finals-from·by·then-finals-from·else-a-q-eq1, else-finals-from·by·else-finals-from}

@@ -1,6 +1,6 @@
 use mathlib.Core.Path.{_≡_}
 use mathlib.Core.Bool.{false}
-use Rattle.rules.specs.Bits.{some-below}
+use Rattle.foundation.specs.Bits.{some-below}
 use Rattle.rules.proofs.Charting.{Ends-at}
 use Rattle.rules.proofs.chart.accepts.Given as given
 

@@ -1,7 +1,7 @@
 use Prim.Native.Nat.{_*_, _/_, _%_}
 use mathlib.Core.Path.{_≡_, _∙_, ap}
 use native.Mathlib.Omega.{arith}
-use Rattle.rules.specs.Bits.{number}
+use Rattle.foundation.specs.Bits.{number}
 use Rattle.rules.specs.Boxes.{through, composed}
 use Rattle.rules.proofs.Joins.{rows-more}
 use Rattle.rules.proofs.chart.compose.Needs as need

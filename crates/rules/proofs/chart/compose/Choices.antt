@@ -1,6 +1,6 @@
 use Prim.Native.Nat.{_*_, _/_, _%_}
 use mathlib.Core.Path.{_≡_}
-use Rattle.rules.specs.Bits.{number}
+use Rattle.foundation.specs.Bits.{number}
 use Rattle.rules.specs.Boxes.{through}
 use Rattle.rules.proofs.chart.compose.Given as given
 

@@ -4,7 +4,7 @@ use native.Mathlib.Omega.{arith}
 use lib.ListN.{length}
 use Rattle.std.proofs.shelf.Tests.{eqb-false}
 use Rattle.rules.specs.Counting.{counted, Counts, Masks}
-use Rattle.rules.specs.laws.Bounds.{length-items}
+use Rattle.foundation.specs.laws.Bounds.{length-items}
 use Rattle.rules.proofs.Counts.{counts, masks-from-shift, masks-from-width, shift-from-masks}
 use Rattle.rules.proofs.count.Count.new.Needs as need
 use Rattle.rules.proofs.count.Count.new.Needs.{else-modulus-lt64·by·then-modulus-lt64·else-permitted-modulus-ne0, else-modulus-lt64·by·else-modulus-lt64}

@@ -1,4 +1,4 @@
-use Rattle.rules.specs.laws.Bits.{bit-clear}
+use Rattle.foundation.specs.laws.Bits.{bit-clear}
 use Rattle.rules.proofs.count.CountOrderRule.breaks.Needs as need
 
 pub returns-else-e-ge64 : need.returns-else-e-ge64

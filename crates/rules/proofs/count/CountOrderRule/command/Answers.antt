@@ -1,7 +1,7 @@
 use mathlib.Core.Path.{_≡_, _∙_, ap}
 use Rattle.std.specs.shelf.Maps.{nth}
 use Rattle.std.proofs.shelf.Maps.{nth-getD, nth-past}
-use Rattle.rules.specs.Bounds.{items}
+use Rattle.foundation.specs.Bounds.{items}
 use Rattle.rules.proofs.Counts.{residue-own}
 use Rattle.rules.proofs.count.CountOrderRule.command.Needs as need
 

@@ -1,6 +1,6 @@
 use mathlib.Core.Path.{_≡_}
 use lib.ListN.{getD}
-use Rattle.rules.specs.Bits.{number}
+use Rattle.foundation.specs.Bits.{number}
 use Rattle.rules.proofs.table.making.breaking_set.Given as given
 
 abbrev pub Inv-loop-i : given.InvT-loop-i

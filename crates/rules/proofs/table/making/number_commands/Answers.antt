@@ -9,7 +9,7 @@ use Rattle.std.specs.Iters.{counting}
 use Rattle.std.specs.Options.{isSome}
 use Rattle.std.proofs.shelf.Counted.{length-map-counting, map-counting-more}
 use Rattle.std.proofs.shelf.Tests.{cond-true, lt-ltb}
-use Rattle.rules.specs.Bounds.{items}
+use Rattle.foundation.specs.Bounds.{items}
 use Rattle.rules.specs.Register.{place}
 use Rattle.rules.specs.Tables.{numbered}
 use Rattle.rules.proofs.Judging.{known-command}

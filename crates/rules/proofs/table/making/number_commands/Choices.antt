@@ -1,7 +1,7 @@
 use mathlib.Core.Path.{_≡_}
 use mathlib.Core.List.{map}
 use Rattle.std.specs.Iters.{counting}
-use Rattle.rules.specs.Bounds.{items}
+use Rattle.foundation.specs.Bounds.{items}
 use Rattle.rules.specs.Tables.{numbered}
 use Rattle.rules.proofs.table.making.number_commands.Given as given
 

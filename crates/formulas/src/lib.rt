@@ -1,0 +1,2 @@
+//! Procedure sets, formulas over effect numbers, and the rounds that settle them.
+pub mod symbol;

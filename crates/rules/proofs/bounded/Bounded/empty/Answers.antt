@@ -1,6 +1,0 @@
-use native.Mathlib.Omega.{arith}
-use lib.ListN.{length-replicate}
-use Rattle.rules.proofs.bounded.Bounded.empty.Needs as need
-
-pub ghost-result : need.ghost-result
-ghost-result g c = (length-replicate (g .N) (c .args .fill), (omega arith, tt))
