@@ -1,1 +1,6 @@
+pub mod Equations
+pub mod Formulas
+pub mod Rounds
 pub mod Symbols
+pub mod Trees
+pub mod Winning

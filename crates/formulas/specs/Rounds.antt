@@ -1,9 +1,6 @@
 -- The formulas of bodies, and the rounds.
-use mathlib.Core.Path.{_≡_}
-use mathlib.Core.Bool.{Bool, true, false, cond, _&&_}
 use mathlib.Core.List.{List, [], _∷_, map}
 use Prim.Native.Nat.{ℕ, zero, suc}
-use lib.Dec.{eqb}
 use lib.ListN.{getD}
 use Rattle.std.specs.Iters.{counting}
 use Rattle.std.specs.declared.option.Option.{Option}
@@ -20,7 +17,7 @@ use Rattle.formulas.specs.Formulas.{bind, impossible, neutral, both, either, s
 use Rattle.formulas.specs.Symbols.{Entry, bodies, owner-of}
 
 -- how many procedures there are
-abbrev pub procedures : ℕ
+unfoldable pub procedures : ℕ
 procedures = 32
 
 -- a list of formulas by procedure; past its end a procedure is impossible
@@ -61,12 +58,30 @@ module _ (limit : ℕ) (t : Table) where
   abbrev pub next-formula : List Entry → List (List ℕ) → ℕ → Option (List ℕ)
   next-formula rs L x = next-owned L (owner-of rs x) (bodies rs x)
 
+-- ---- a round: a formula for each procedure, by the formulas of the round before alone
+
+abbrev pub with-first : ℕ → Option (List ℕ) → Result (List (List ℕ)) ℕ → Result (List (List ℕ)) ℕ
+with-first x None r = Err x
+with-first x (Some F) (Ok Fs) = Ok (F ∷ Fs)
+with-first x (Some F) (Err y) = Err y
+
 -- the formulas of the procedures xs one after the other, or the first procedure that has none
-abbrev pub gather-each : (ℕ → Option (List ℕ)) → List ℕ → Result (List (List ℕ)) ℕ
-gather-each f [] = Ok []
-gather-each f (x ∷ xs) = with-first x (f x) (gather-each f xs)
-  where
-    with-first : ℕ → Option (List ℕ) → Result (List (List ℕ)) ℕ → Result (List (List ℕ)) ℕ
-    with-first x None r = Err x
-    with-first x (Some F) (Ok Fs) = Ok (F ∷ Fs)
-    with-first x (Some F) (Err y) = Err y
+abbrev pub each-formula : (ℕ → Option (List ℕ)) → List ℕ → Result (List (List ℕ)) ℕ
+each-formula f [] = Ok []
+each-formula f (x ∷ xs) = with-first x (f x) (each-formula f xs)
+
+abbrev pub first-round : List (List ℕ)
+first-round = map (λ _. impossible) (counting 0 procedures)
+
+abbrev pub on-round : Result (List (List ℕ)) ℕ → (List (List ℕ) → Result (List (List ℕ)) ℕ) → Result (List (List ℕ)) ℕ
+on-round (Ok L) f = f L
+on-round (Err x) f = Err x
+
+module _ (limit : ℕ) (rs : List Entry) (t : Table) where
+  abbrev pub next-round : List (List ℕ) → Result (List (List ℕ)) ℕ
+  next-round L = each-formula (next-formula limit t rs L) (counting 0 procedures)
+
+  -- round k, or the procedure at which a clause too many would have stood
+  abbrev pub round : ℕ → Result (List (List ℕ)) ℕ
+  round zero = Ok first-round
+  round (suc k) = on-round (round k) next-round
