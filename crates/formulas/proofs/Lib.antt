@@ -1,3 +1,10 @@
 pub mod Given
 pub mod Meets
 pub mod Normals
+pub mod Monoids
+pub mod Winning
+pub mod Owners
+pub mod Combining
+pub mod Rounds
+pub mod Trees
+pub mod Least

@@ -8,9 +8,11 @@ use Rattle.std.specs.declared.result.Result.the-variants.{Ok, Err}
 use Rattle.foundation.specs.Bits.{has}
 use Rattle.rules.specs.Tables.{Table}
 use Rattle.formulas.specs.declared.symbol.Owner.the-variants.{Station, Field}
-use Rattle.formulas.specs.Formulas.{Normal, Below-width}
+use Rattle.formulas.specs.declared.symbol.Symbol.{Symbol}
+use Rattle.formulas.specs.Formulas.{meets, Normal, Below-width}
 use Rattle.formulas.specs.Rounds.{formula-at, round}
 use Rattle.formulas.specs.Symbols.{Entry, Of, Belongs}
+use Rattle.formulas.specs.Trees.{Tree, Leads-into}
 use Rattle.formulas.specs.Winning.{Assignment, assigned, winning}
 
 module _ (rs : List Entry) (t : Table) where
@@ -38,3 +40,11 @@ module _ (rs : List Entry) (t : Table) where
     pub is : round limit rs t k ≡ Ok L
     pub equal : round limit rs t before ≡ Ok L
     pub earlier : (j : ℕ) → j < before → round limit rs t (suc j) ≡ round limit rs t j → ⊥
+
+  -- the winning sets by the formulas L are where the field has a finite tree of choices: for every set of effects, list of symbols, and effect before it
+  abbrev pub Winning-by-trees : List (List ℕ) → Type 0
+  Winning-by-trees L = (A e : ℕ) (s : List Symbol) → A < 2 ^ t .count → e < t .count → Decides (has (winning t (assigned (formula-at L)) A s) e) (Tree rs (Leads-into t A e) s)
+
+  -- F is a formula of the list s: it meets a set of effects exactly where the field has a tree under that set
+  abbrev pub Meets-by-trees : List Symbol → List ℕ → Type 0
+  Meets-by-trees s F = (A : ℕ) → A < 2 ^ t .count → Decides (meets (has A) F) (Tree rs (Leads-into t A 0) s)
