@@ -8,3 +8,4 @@ pub mod Combining
 pub mod Rounds
 pub mod Trees
 pub mod Least
+pub mod Offering

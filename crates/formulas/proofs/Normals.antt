@@ -3,25 +3,50 @@ use mathlib.Core.Path.{_≡_, refl, sym, ap, ap₂, _∙_, subst}
 use mathlib.Core.List.{List, [], _∷_, map, List·Memᴰ, List·Memᴰ·head, List·Memᴰ·tail, List·Memᴰ·cases-cons, List·Memᴰ·eq-of-singleton, Memᴰ·cast}
 use mathlib.Core.Bool.{Bool, true, false, _&&_, _||_, not, cond, false≢true}
 use mathlib.Core.Logic.{_⊎_, inl, inr, ⊎-elim}
-use Prim.Native.Nat.{ℕ, _^_, _<_, _≤_}
+use Prim.Native.Nat.{ℕ, zero, suc, _+_, _^_, _<_, _≤_}
 use native.Mathlib.Omega.{arith}
-use lib.Bits.{bitAnd, and-self}
+use lib.Bits.{bitAnd, and-self, and-le-r}
 use lib.Dec.{ltb}
-use lib.ListN.{length}
+use lib.ListN.{length, getD}
 use Rattle.std.specs.declared.option.Option.{Option}
 use Rattle.std.specs.declared.option.Option.the-variants.{Some, None}
+use Rattle.std.specs.shelf.Lawful.{Climbs}
 use Rattle.std.specs.shelf.Lists.{All}
 use Rattle.std.proofs.shelf.Elements.{all-weaker, all-kept-by}
-use Rattle.std.proofs.shelf.Tests.{ltb-true, ltb-false, eq-eqb, both-ways, cases-bool, cases-lt}
+use Rattle.std.proofs.shelf.Tests.{ltb-true, ltb-false, eqb-true, eq-eqb, both-ways, cases-bool, cases-lt, and-parts, and-from, not-true, not-from-false}
 use Rattle.foundation.specs.Bits.{has, number}
 use Rattle.foundation.specs.Sets.{within, members, hits}
 use Rattle.foundation.specs.Tests.{any}
 use Rattle.foundation.specs.laws.Bits.{has-number, has-above, has-ext, number-lt, same-tests}
 use Rattle.foundation.specs.laws.Members.{hits-decides}
 use Rattle.foundation.specs.laws.Sets.{within-decides}
-use Rattle.foundation.specs.laws.Tests.{in-any, not-all-in, in-not-all}
-use Rattle.formulas.specs.Formulas.{meets, Rising, Normal, Below-width, outside, placed, offer, offers}
+use Rattle.foundation.specs.laws.Tests.{any-in, in-any, not-all-in, in-not-all}
+use Rattle.formulas.specs.Formulas.{meets, Normal, none-within, Below-width, outside, placed, offer, offers}
 use Rattle.formulas.proofs.Given.{Given, given-bind, given-weaker}
+
+-- ---- rising order
+
+abbrev pub Ordered : List ℕ → Type 0
+Ordered [] = Unit {0}
+Ordered (K ∷ F) = All (λ L. K < L) F × Ordered F
+
+pub ordered-climbs : (F : List ℕ) → Ordered F → Climbs F
+ordered-climbs [] o k h = absurd (omega arith)
+ordered-climbs (K ∷ []) o k h = absurd (omega arith)
+ordered-climbs (K ∷ L ∷ F) o zero h = o .0 .0
+ordered-climbs (K ∷ L ∷ F) o (suc k) h =
+    let e : suc k + 1 ≡ suc (k + 1) = omega arith in
+    rw e (ordered-climbs (L ∷ F) (o .1) k (omega arith))
+
+pub climbs-ordered : (F : List ℕ) → Climbs F → Ordered F
+climbs-ordered [] c = tt
+climbs-ordered (K ∷ F) c =
+    let rest = climbs-ordered F (λ k h. let e : suc k + 1 ≡ suc (k + 1) = omega arith in let l : suc k + 1 < suc (length F) = omega arith in rw e at (c (suc k) l)) in
+    (above F (c 0) rest, rest)
+  where
+    above : (F : List ℕ) → (0 + 1 < length (K ∷ F) → K < getD (K ∷ F) (0 + 1) 0) → Ordered F → All (λ L. K < L) F
+    above [] h o = tt
+    above (L ∷ F) h o = let l : K < L = h (omega arith) in (l, all-weaker (λ y. L < y) (λ y. K < y) (λ y q. omega arith) F (o .0))
 
 -- ---- containment
 
@@ -33,6 +58,39 @@ within-trans a b c p q = within-decides a c .1 (λ k h. within-decides b c .0 q 
 
 pub within-antisym : (a b : ℕ) → within a b ≡ true → within b a ≡ true → a ≡ b
 within-antisym a b p q = has-ext a b (λ k. same-tests (has a k) (has b k) (within-decides a b .0 p k) (within-decides b a .0 q k))
+
+pub within-le : (K L : ℕ) → within K L ≡ true → K ≤ L
+within-le K L e = omega (arith, eqb-true (bitAnd K L) K e, and-le-r K L)
+
+-- ---- as a test
+
+All-in : (P : ℕ → Type 0) {x : ℕ} {xs : List ℕ} → All P xs → List·Memᴰ x xs → P x
+All-in P a (List·Memᴰ·head e) = subst P (sym e) (a .0)
+All-in P a (List·Memᴰ·tail m) = All-in P (a .1) m
+
+pub normal-test : (F : List ℕ) → Normal F → none-within F ≡ true
+normal-test F n = go F (climbs-ordered F (n .rising)) (n .apart)
+  where
+    go : (F : List ℕ) → Ordered F → ((K L : ℕ) → List·Memᴰ K F → List·Memᴰ L F → within K L ≡ true → K ≡ L) → none-within F ≡ true
+    go [] o a = refl
+    go (K ∷ F) o a = and-from (not (any (within K) F)) (none-within F) (not-from-false (any (within K) F) new) (go F (o .1) (λ L M l m. a L M (List·Memᴰ·tail l) (List·Memᴰ·tail m)))
+      where
+        new : any (within K) F ≡ false
+        new = ⊎-elim
+            (λ e. let r = any-in (within K) F e in absurd (omega (arith, a K (r .0) (List·Memᴰ·head refl) (List·Memᴰ·tail (r .1)) (r .2), All-in (λ L. K < L) (o .0) (r .1))))
+            (λ e. e)
+            (cases-bool (any (within K) F))
+
+pub test-normal : (F : List ℕ) → Climbs F → none-within F ≡ true → Normal F
+test-normal F c t = record { rising = c; apart = λ K L k l e. go F (climbs-ordered F c) t K L k l e }
+  where
+    go : (F : List ℕ) → Ordered F → none-within F ≡ true → (K L : ℕ) → List·Memᴰ K F → List·Memᴰ L F → within K L ≡ true → K ≡ L
+    go [] o t K L k l e = elim k [ ]
+    go (M ∷ F) o t K L (List·Memᴰ·head p) (List·Memᴰ·head q) e = p ∙ sym q
+    go (M ∷ F) o t K L (List·Memᴰ·head p) (List·Memᴰ·tail l) e =
+        absurd (both-ways (any (within M) F) (not-true (any (within M) F) (and-parts (not (any (within M) F)) (none-within F) t .0)) (in-any (within M) l (ap (λ x. within x L) (sym p) ∙ e)))
+    go (M ∷ F) o t K L (List·Memᴰ·tail k) (List·Memᴰ·head q) e = absurd (omega (arith, All-in (λ y. M < y) (o .0) k, within-le K L e))
+    go (M ∷ F) o t K L (List·Memᴰ·tail k) (List·Memᴰ·tail l) e = go F (o .1) (and-parts (not (any (within M) F)) (none-within F) t .1) K L k l e
 
 -- ---- an offer keeps the form
 
@@ -46,11 +104,11 @@ outside-in C (L ∷ F) K m = go (within C L) refl m (outside-in C F K)
     go false e (List·Memᴰ·head q) ih = (List·Memᴰ·head q, ap (within C) q ∙ e)
     go false e (List·Memᴰ·tail m) ih = let r = ih m in (List·Memᴰ·tail (r .0), r .1)
 
-outside-rising : (C : ℕ) (F : List ℕ) → Rising F → Rising (outside C F)
+outside-rising : (C : ℕ) (F : List ℕ) → Ordered F → Ordered (outside C F)
 outside-rising C [] r = tt
 outside-rising C (L ∷ F) r = go (within C L) (outside-rising C F (r .1))
   where
-    go : (b : Bool) → Rising (outside C F) → Rising (cond (not b) (L ∷ outside C F) (outside C F))
+    go : (b : Bool) → Ordered (outside C F) → Ordered (cond (not b) (L ∷ outside C F) (outside C F))
     go true ih = ih
     go false ih = (all-kept-by (λ K. not (within C K)) (λ y. L < y) F (r .0), ih)
 
@@ -75,11 +133,11 @@ placed-all P C (L ∷ F) p a = go (ltb C L) (placed-all P C F p (a .1))
     go true ih = (p, (a .0, a .1))
     go false ih = (a .0, ih)
 
-placed-rising : (C : ℕ) (F : List ℕ) → Rising F → ((K : ℕ) → List·Memᴰ K F → K ≡ C → ⊥) → Rising (placed C F)
+placed-rising : (C : ℕ) (F : List ℕ) → Ordered F → ((K : ℕ) → List·Memᴰ K F → K ≡ C → ⊥) → Ordered (placed C F)
 placed-rising C [] r new = (tt, tt)
 placed-rising C (L ∷ F) r new = go (ltb C L) refl (placed-rising C F (r .1) (λ K m. new K (List·Memᴰ·tail m)))
   where
-    go : (b : Bool) → ltb C L ≡ b → Rising (placed C F) → Rising (cond b (C ∷ L ∷ F) (L ∷ placed C F))
+    go : (b : Bool) → ltb C L ≡ b → Ordered (placed C F) → Ordered (cond b (C ∷ L ∷ F) (L ∷ placed C F))
     go true e ih = let h : C < L = ltb-true C L e in ((h, all-weaker (λ y. L < y) (λ y. C < y) (λ y q. omega arith) F (r .0)), r)
     go false e ih = (placed-all (λ y. L < y) C F (omega (arith, ltb-false C L e, new L (List·Memᴰ·head refl))) (r .0), ih)
 
@@ -95,7 +153,8 @@ module _ (C : ℕ) (F : List ℕ) (n : Normal F) (new : any (λ K. within K C) F
 
   pub entered-normal : Normal (placed C (outside C F))
   entered-normal = record {
-    rising = placed-rising C (outside C F) (outside-rising C F (n .rising)) (λ K m q. both-ways (within C K) (outside-in C F K m .1) (rw q (within-self C)));
+    rising = ordered-climbs (placed C (outside C F))
+        (placed-rising C (outside C F) (outside-rising C F (climbs-ordered F (n .rising))) (λ K m q. both-ways (within C K) (outside-in C F K m .1) (rw q (within-self C))));
     apart = λ K L mk ml s. pick K L (placed-in C (outside C F) K mk) (placed-in C (outside C F) L ml) s;
   }
 
@@ -128,10 +187,10 @@ module _ (limit : ℕ) where
   offers-all P F (C ∷ Cs) a b = given-bind (offer limit C F) (λ R. offers limit R Cs) (All P) (All P) (offer-all P C F (b .0) a) (λ R r. offers-all P R Cs r (b .1))
 
 pub nil-normal : Normal []
-nil-normal = record { rising = tt; apart = λ K L m k s. elim m [ ] }
+nil-normal = record { rising = ordered-climbs [] tt; apart = λ K L m k s. elim m [ ] }
 
 pub one-normal : (C : ℕ) → Normal (C ∷ [])
-one-normal C = record { rising = (tt, tt); apart = λ K L m k s. List·Memᴰ·eq-of-singleton m ∙ sym (List·Memᴰ·eq-of-singleton k) }
+one-normal C = record { rising = ordered-climbs (C ∷ []) (tt, tt); apart = λ K L m k s. List·Memᴰ·eq-of-singleton m ∙ sym (List·Memᴰ·eq-of-singleton k) }
 
 -- ---- the same sets met, the same formula
 
@@ -159,10 +218,6 @@ module _ (w : ℕ) where
       go k l (inl c) (inr e) = absurd (false≢true (sym h ∙ hits-decides (has (rest-of w K)) L .1 (k, l, has-number (λ k. not (has K k)) w k c ∙ ap not e)))
       go k l (inr c) (inr e) = absurd (false≢true (sym (has-above w L k b c) ∙ l))
 
-  All-in : (P : ℕ → Type 0) {x : ℕ} {xs : List ℕ} → All P xs → List·Memᴰ x xs → P x
-  All-in P a (List·Memᴰ·head e) = subst P (sym e) (a .0)
-  All-in P a (List·Memᴰ·tail m) = All-in P (a .1) m
-
   -- each clause of the one is in the other
   clauses-in : (F G : List ℕ) → Normal F → Below-width w F → Below-width w G → ((S : ℕ) → S < 2 ^ w → meets (has S) F ≡ meets (has S) G) → (K : ℕ) → List·Memᴰ K F → List·Memᴰ K G
   clauses-in F G nf bf bg same K m =
@@ -175,7 +230,7 @@ module _ (w : ℕ) where
       let e : k .0 ≡ K = nf .apart (k .0) K (k .1) m (within-trans (k .0) L K kl lk) in
       Memᴰ·cast (within-antisym K L (rw e at kl) lk) (l .1)
 
-  same-rising : (F G : List ℕ) → Rising F → Rising G → ((z : ℕ) → List·Memᴰ z F → List·Memᴰ z G) → ((z : ℕ) → List·Memᴰ z G → List·Memᴰ z F) → F ≡ G
+  same-rising : (F G : List ℕ) → Ordered F → Ordered G → ((z : ℕ) → List·Memᴰ z F → List·Memᴰ z G) → ((z : ℕ) → List·Memᴰ z G → List·Memᴰ z F) → F ≡ G
   same-rising [] [] rf rg f b = refl
   same-rising [] (y ∷ G) rf rg f b = elim (b y (List·Memᴰ·head refl)) [ ]
   same-rising (x ∷ F) [] rf rg f b = elim (f x (List·Memᴰ·head refl)) [ ]
@@ -196,4 +251,4 @@ module _ (w : ℕ) where
 
   pub same-formula : (F G : List ℕ) → Normal F → Normal G → Below-width w F → Below-width w G → ((S : ℕ) → S < 2 ^ w → meets (has S) F ≡ meets (has S) G) → F ≡ G
   same-formula F G nf ng bf bg same =
-      same-rising F G (nf .rising) (ng .rising) (clauses-in F G nf bf bg same) (clauses-in G F ng bg bf (λ S l. sym (same S l)))
+      same-rising F G (climbs-ordered F (nf .rising)) (climbs-ordered G (ng .rising)) (clauses-in F G nf bf bg same) (clauses-in G F ng bg bf (λ S l. sym (same S l)))

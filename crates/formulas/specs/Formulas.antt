@@ -9,6 +9,7 @@ use lib.Dec.{ltb}
 use lib.ListN.{length}
 use Rattle.std.specs.declared.option.Option.{Option}
 use Rattle.std.specs.declared.option.Option.the-variants.{Some, None}
+use Rattle.std.specs.shelf.Lawful.{Climbs}
 use Rattle.std.specs.shelf.Lists.{All, kept-by}
 use Rattle.foundation.specs.Sets.{within, members, gathered, hits}
 use Rattle.foundation.specs.Tests.{any, all}
@@ -32,14 +33,15 @@ neutral = 1 ∷ []
 
 -- ---- smallest clauses, in rising order
 
-abbrev pub Rising : List ℕ → Type 0
-Rising [] = Unit {0}
-Rising (K ∷ F) = All (λ L. K < L) F × Rising F
-
--- the clauses stand in rising order, and none lies within another
+-- the clauses rise, and none lies within another
 pub record Normal (F : List ℕ) : Type 0 where
-  pub rising : Rising F
+  pub rising : Climbs F
   pub apart : (K L : ℕ) → List·Memᴰ K F → List·Memᴰ L F → within K L ≡ true → K ≡ L
+
+-- as a test: no clause lies within a later one. Where clauses rise, no other can.
+abbrev pub none-within : List ℕ → Bool
+none-within [] = true
+none-within (K ∷ F) = not (any (within K) F) && none-within F
 
 -- every clause has only numbers below w
 abbrev pub Below-width : ℕ → List ℕ → Type 0

@@ -1,2 +1,3 @@
 //! Procedure sets, formulas over effect numbers, and the rounds that settle them.
+pub mod clauses;
 pub mod symbol;

@@ -7,7 +7,7 @@ ghost use lib.Dec.{eqb, ltb};
 ghost use lib.ListN.{length, drop};
 ghost use Prim.Native.Nat.{ℕ};
 ghost use Rattle.foundation.specs.Bits.{has};
-ghost use Rattle.foundation.specs.Sets.{added, within, size, First, members};
+ghost use Rattle.foundation.specs.Sets.{added, within, size, First, members, hits};
 ghost use Rattle.std.specs.Options.{Cases as BySome};
 ghost use Rattle.std.specs.Orderings.{Decides};
 ghost use Rattle.std.specs.Written.{decimal};
@@ -22,8 +22,8 @@ pub type EffectNumber = u8;
 /// How many effect numbers have a place in a set.
 const PLACES: EffectNumber = 64;
 
-/// A set of effect numbers: bit `k` is set exactly for a member `k`. Sets compare as numbers do.
-#[derive(Clone, Copy, Eq, PartialOrd, Ord)]
+/// A set of effect numbers: bit `k` is set exactly for a member `k`.
+#[derive(Clone, Copy, Eq)]
 pub struct EffectSet {
     bits: u64,
 }
@@ -72,6 +72,20 @@ impl EffectSet {
         ensures members { λ r. ⌜ Decides r ((k : ℕ) → has (self .bits) k ≡ true → has (other .bits) k ≡ true) ⌝ }
     {
         self.bits & other.bits == self.bits
+    }
+
+    /// Whether the set's number is below the other's.
+    pub fn precedes(self, other: EffectSet) -> bool
+        ensures { λ r. ⌜ r ≡ ltb (self .bits) (other .bits) ⌝ }
+    {
+        self.bits < other.bits
+    }
+
+    /// Whether the two sets share a member.
+    pub fn meets(self, other: EffectSet) -> bool
+        ensures { λ r. ⌜ r ≡ hits (has (other .bits)) (self .bits) ⌝ }
+    {
+        self.bits & other.bits != 0
     }
 
     /// The lowest member.

@@ -2,7 +2,6 @@
 use foundation::effect_set::EffectSet;
 use foundation::effect_set::EffectSetDisplay;
 use foundation::effect_set::EffectSetPartialEq;
-use foundation::effect_set::EffectSetPartialOrd;
 use std::test::*;
 
 #[test]
@@ -44,8 +43,8 @@ fn unites() -> Result<(), Fail> {
 fn has_the_order_of_its_number() -> Result<(), Fail> {
     let low = EffectSet::empty().with(0).with(1);
     let high = EffectSet::empty().with(2);
-    check(EffectSet::empty() < low && low < high)?;
-    check(low != high && high <= high)
+    check(EffectSet::empty().precedes(low) && low.precedes(high))?;
+    check(low != high && !high.precedes(high))
 }
 
 #[test]

@@ -1,7 +1,7 @@
 -- The laws of the members of a set, for any width.
 use mathlib.Core.Path.{_≡_, refl, sym, ap, ap₂, _∙_, fun-ext}
 use mathlib.Core.List.{List, [], _∷_, map, List·Memᴰ, Memᴰ·cast}
-use mathlib.Core.Bool.{Bool, true, false, cond, _&&_, _||_, or-false, and-false}
+use mathlib.Core.Bool.{Bool, true, false, not, cond, false≢true, _&&_, _||_, or-false, and-false}
 use mathlib.Core.Logic.{_⊎_, inl, inr, ⊎-elim}
 use Prim.Native.Nat.{ℕ, zero, suc, _+_, _-_, _*_, _/_, _%_, _^_, _≤_, _<_, min}
 use native.Mathlib.Nat.{le-refl, not-suc-le-zero, pow-suc, mul-mod-left}
@@ -13,12 +13,12 @@ use lib.Count.{ones, ones-step, trailingZeros, under}
 use lib.Dec.{eqb}
 use lib.ListN.{length}
 use Rattle.std.proofs.shelf.Lists.{length-map}
-use Rattle.std.proofs.shelf.Tests.{eqb-true, eq-eqb, ne-eqb, cond-true, cond-false}
+use Rattle.std.proofs.shelf.Tests.{eqb-true, eqb-false, eq-eqb, ne-eqb, cond-true, cond-false, and-parts, and-from, not-true, not-from-false}
 use Rattle.std.specs.Orderings.{Decides}
 use Rattle.foundation.specs.Bits.{has}
 use Rattle.foundation.specs.Sets.{within, members-in, members, gathered, hits}
 use Rattle.foundation.specs.Tests.{any}
-use Rattle.foundation.specs.laws.Bits.{two-ways, has-or, has-zero}
+use Rattle.foundation.specs.laws.Bits.{two-ways, has-or, has-and, has-zero, some-bit, same-tests}
 use Rattle.foundation.specs.laws.Sets.{has-half, has-low, eqb-suc}
 use Rattle.foundation.specs.laws.Tests.{any-map, any-in, in-any}
 
@@ -188,3 +188,19 @@ hits-decides A s = (
   λ h. let r = any-in A (members s) h in (r .0, in-members s (r .0) .1 (r .1), r .2),
   λ r. in-any A (in-members s (r .0) .0 (r .1)) (r .2),
 )
+
+-- two sets share a member where they have a bit in common
+pub shared-hits : (s a : ℕ) → not (eqb (bitAnd s a) 0) ≡ hits (has a) s
+shared-hits s a = same-tests (not (eqb (bitAnd s a) 0)) (hits (has a) s) forth back
+  where
+    forth : not (eqb (bitAnd s a) 0) ≡ true → hits (has a) s ≡ true
+    forth e =
+        let r = some-bit (bitAnd s a) (eqb-false (bitAnd s a) 0 (not-true (eqb (bitAnd s a) 0) e)) in
+        let p = and-parts (has s (r .0)) (has a (r .0)) (sym (has-and s a (r .0)) ∙ r .1) in
+        hits-decides (has a) s .1 (r .0, p .0, p .1)
+
+    back : hits (has a) s ≡ true → not (eqb (bitAnd s a) 0) ≡ true
+    back e =
+        let r = hits-decides (has a) s .0 e in
+        let h : has (bitAnd s a) (r .0) ≡ true = has-and s a (r .0) ∙ and-from (has s (r .0)) (has a (r .0)) (r .1) (r .2) in
+        not-from-false (eqb (bitAnd s a) 0) (ne-eqb (bitAnd s a) 0 (λ z. false≢true (sym (ap (λ n. has n (r .0)) z ∙ has-zero (r .0)) ∙ h)))
