@@ -9,3 +9,4 @@ pub mod Rounds
 pub mod Trees
 pub mod Least
 pub mod Offering
+pub mod Offers

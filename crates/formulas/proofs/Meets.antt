@@ -13,7 +13,7 @@ use Rattle.foundation.specs.Tests.{any, all}
 use Rattle.foundation.specs.laws.Members.{hits-none, hits-or, hits-gathered, hits-within}
 use Rattle.foundation.specs.laws.Tests.{all-map, all-append}
 use Rattle.rules.specs.Tables.{Table, join-of}
-use Rattle.formulas.specs.Formulas.{bind, meets, impossible, outside, placed, offer, offers, unions, joins, joined, both, either, shift, or-after, and-after, then}
+use Rattle.formulas.specs.Formulas.{bind, meets, impossible, outside, placed, offer, offers, unions, leading, going-on, joins, joined, both, either, shift, or-after, and-after, then}
 use Rattle.formulas.proofs.Given.{Given, given-bind, given-weaker}
 
 -- ---- offering is "and this clause too"
@@ -102,53 +102,45 @@ module _ (A : ℕ → Bool) where
 -- ---- shift and then compose as the join does
 
 module _ (t : Table) (A : ℕ → Bool) where
-  -- the effects that lead into A after e
-  abbrev pub from : ℕ → ℕ → Bool
-  from e k = ltb e (t .count) && (ltb k (t .count) && A (join-of t e k))
-
-  any-joins : (e : ℕ) (ks : List ℕ) → any A (joins t e ks) ≡ any (from e) ks
+  any-joins : (e : ℕ) (ks : List ℕ) → any A (joins t e ks) ≡ any (leading t A e) ks
   any-joins e [] = refl
   any-joins e (k ∷ ks) = go (ltb e (t .count)) (ltb k (t .count)) (any-joins e ks)
     where
-      go : (x y : Bool) → any A (joins t e ks) ≡ any (from e) ks → any A (cond (x && y) (join-of t e k ∷ joins t e ks) (joins t e ks)) ≡ ((x && (y && A (join-of t e k))) || any (from e) ks)
+      go : (x y : Bool) → any A (joins t e ks) ≡ any (leading t A e) ks → any A (cond (x && y) (join-of t e k ∷ joins t e ks) (joins t e ks)) ≡ ((x && (y && A (join-of t e k))) || any (leading t A e) ks)
       go true true ih = ap (λ b. A (join-of t e k) || b) ih
       go true false ih = ih
       go false y ih = ih
 
-  hits-joined : (e K : ℕ) → hits A (joined t e K) ≡ hits (from e) K
+  hits-joined : (e K : ℕ) → hits A (joined t e K) ≡ hits (leading t A e) K
   hits-joined e K = hits-gathered A (joins t e (members K)) ∙ any-joins e (members K)
 
   module _ (limit : ℕ) where
-    pub shift-meets : (e : ℕ) (F : List ℕ) → Given (shift limit t e F) (λ R. meets A R ≡ meets (from e) F)
+    pub shift-meets : (e : ℕ) (F : List ℕ) → Given (shift limit t e F) (λ R. meets A R ≡ meets (leading t A e) F)
     shift-meets e F =
-        given-weaker (shift limit t e F) (λ R. meets A R ≡ (true && meets A (map (joined t e) F))) (λ R. meets A R ≡ meets (from e) F) (offers-meet A limit [] (map (joined t e) F))
+        given-weaker (shift limit t e F) (λ R. meets A R ≡ (true && meets A (map (joined t e) F))) (λ R. meets A R ≡ meets (leading t A e) F) (offers-meet A limit [] (map (joined t e) F))
         (λ R h. h ∙ all-map (hits A) (joined t e) F ∙ ap (λ (p : ℕ → Bool). all p F) (fun-ext (hits-joined e)))
 
-    -- one of the effects e, and then G
-    abbrev pub through : List ℕ → ℕ → Bool
-    through G e = ltb e (t .count) && meets (from e) G
-
-    or-after-meets : (G T es : List ℕ) → Given (or-after limit t G T es) (λ R. meets A R ≡ (meets A T || any (through G) es))
+    or-after-meets : (G T es : List ℕ) → Given (or-after limit t G T es) (λ R. meets A R ≡ (meets A T || any (going-on t A G) es))
     or-after-meets G T [] = sym (or-false (meets A T))
     or-after-meets G T (e ∷ es) = go (ltb e (t .count)) (or-after-meets G T es) (λ U. or-after-meets G U es)
       where
-        go : (b : Bool) → Given (or-after limit t G T es) (λ R. meets A R ≡ (meets A T || any (through G) es)) → ((U : List ℕ) → Given (or-after limit t G U es) (λ R. meets A R ≡ (meets A U || any (through G) es)))
-          → Given (cond b (bind (shift limit t e G) (λ S. bind (either limit T S) (λ U. or-after limit t G U es))) (or-after limit t G T es)) (λ R. meets A R ≡ (meets A T || ((b && meets (from e) G) || any (through G) es)))
+        go : (b : Bool) → Given (or-after limit t G T es) (λ R. meets A R ≡ (meets A T || any (going-on t A G) es)) → ((U : List ℕ) → Given (or-after limit t G U es) (λ R. meets A R ≡ (meets A U || any (going-on t A G) es)))
+          → Given (cond b (bind (shift limit t e G) (λ S. bind (either limit T S) (λ U. or-after limit t G U es))) (or-after limit t G T es)) (λ R. meets A R ≡ (meets A T || ((b && meets (leading t A e) G) || any (going-on t A G) es)))
         go false same ih = same
         go true same ih =
-            given-bind (shift limit t e G) (λ S. bind (either limit T S) (λ U. or-after limit t G U es)) (λ S. meets A S ≡ meets (from e) G) (λ R. meets A R ≡ (meets A T || (meets (from e) G || any (through G) es))) (shift-meets e G)
-            (λ S s. given-bind (either limit T S) (λ U. or-after limit t G U es) (λ U. meets A U ≡ (meets A T || meets A S)) (λ R. meets A R ≡ (meets A T || (meets (from e) G || any (through G) es))) (either-meets A limit T S)
-            (λ U u. given-weaker (or-after limit t G U es) (λ R. meets A R ≡ (meets A U || any (through G) es)) (λ R. meets A R ≡ (meets A T || (meets (from e) G || any (through G) es))) (ih U)
-            (λ R r. r ∙ ap (λ b. b || any (through G) es) (u ∙ ap (λ b. meets A T || b) s) ∙ or-assoc (meets A T) (meets (from e) G) (any (through G) es))))
+            given-bind (shift limit t e G) (λ S. bind (either limit T S) (λ U. or-after limit t G U es)) (λ S. meets A S ≡ meets (leading t A e) G) (λ R. meets A R ≡ (meets A T || (meets (leading t A e) G || any (going-on t A G) es))) (shift-meets e G)
+            (λ S s. given-bind (either limit T S) (λ U. or-after limit t G U es) (λ U. meets A U ≡ (meets A T || meets A S)) (λ R. meets A R ≡ (meets A T || (meets (leading t A e) G || any (going-on t A G) es))) (either-meets A limit T S)
+            (λ U u. given-weaker (or-after limit t G U es) (λ R. meets A R ≡ (meets A U || any (going-on t A G) es)) (λ R. meets A R ≡ (meets A T || (meets (leading t A e) G || any (going-on t A G) es))) (ih U)
+            (λ R r. r ∙ ap (λ b. b || any (going-on t A G) es) (u ∙ ap (λ b. meets A T || b) s) ∙ or-assoc (meets A T) (meets (leading t A e) G) (any (going-on t A G) es))))
 
-    and-after-meets : (G R F : List ℕ) → Given (and-after limit t G R F) (λ S. meets A S ≡ (meets A R && meets (through G) F))
+    and-after-meets : (G R F : List ℕ) → Given (and-after limit t G R F) (λ S. meets A S ≡ (meets A R && meets (going-on t A G) F))
     and-after-meets G R [] = sym (and-true (meets A R))
     and-after-meets G R (K ∷ F) =
-        given-bind (or-after limit t G impossible (members K)) (λ T. bind (both limit R T) (λ S. and-after limit t G S F)) (λ T. meets A T ≡ (meets A impossible || hits (through G) K)) (λ S. meets A S ≡ (meets A R && (hits (through G) K && meets (through G) F)))
+        given-bind (or-after limit t G impossible (members K)) (λ T. bind (both limit R T) (λ S. and-after limit t G S F)) (λ T. meets A T ≡ (meets A impossible || hits (going-on t A G) K)) (λ S. meets A S ≡ (meets A R && (hits (going-on t A G) K && meets (going-on t A G) F)))
         (or-after-meets G impossible (members K))
-        (λ T e. given-bind (both limit R T) (λ S. and-after limit t G S F) (λ S. meets A S ≡ (meets A R && meets A T)) (λ S. meets A S ≡ (meets A R && (hits (through G) K && meets (through G) F))) (offers-meet A limit R T)
-        (λ U u. given-weaker (and-after limit t G U F) (λ S. meets A S ≡ (meets A U && meets (through G) F)) (λ S. meets A S ≡ (meets A R && (hits (through G) K && meets (through G) F))) (and-after-meets G U F)
-        (λ S s. s ∙ ap (λ b. b && meets (through G) F) (u ∙ ap (λ b. meets A R && b) (e ∙ ap (λ b. b || hits (through G) K) (impossible-meets A))) ∙ and-assoc (meets A R) (hits (through G) K) (meets (through G) F))))
+        (λ T e. given-bind (both limit R T) (λ S. and-after limit t G S F) (λ S. meets A S ≡ (meets A R && meets A T)) (λ S. meets A S ≡ (meets A R && (hits (going-on t A G) K && meets (going-on t A G) F))) (offers-meet A limit R T)
+        (λ U u. given-weaker (and-after limit t G U F) (λ S. meets A S ≡ (meets A U && meets (going-on t A G) F)) (λ S. meets A S ≡ (meets A R && (hits (going-on t A G) K && meets (going-on t A G) F))) (and-after-meets G U F)
+        (λ S s. s ∙ ap (λ b. b && meets (going-on t A G) F) (u ∙ ap (λ b. meets A R && b) (e ∙ ap (λ b. b || hits (going-on t A G) K) (impossible-meets A))) ∙ and-assoc (meets A R) (hits (going-on t A G) K) (meets (going-on t A G) F))))
 
-    pub then-meets : (F G : List ℕ) → Given (then limit t F G) (λ R. meets A R ≡ meets (through G) F)
+    pub then-meets : (F G : List ℕ) → Given (then limit t F G) (λ R. meets A R ≡ meets (going-on t A G) F)
     then-meets F G = and-after-meets G [] F

@@ -18,11 +18,11 @@ use Rattle.rules.specs.Lookups.{table-command}
 use Rattle.rules.specs.Tables.{Table, number-of, join-of}
 use Rattle.formulas.specs.declared.symbol.Symbol.{Symbol}
 use Rattle.formulas.specs.declared.symbol.Symbol.the-variants.{Command, Procedure}
-use Rattle.formulas.specs.Formulas.{bind, meets, impossible, shift, then}
+use Rattle.formulas.specs.Formulas.{bind, meets, impossible, leading, going-on, shift, then}
 use Rattle.formulas.specs.Rounds.{formula-at, shift-by, body-formula}
 use Rattle.formulas.specs.Winning.{Assignment, assigned, effects-where, after-effect, before-command, before-procedure, winning}
 use Rattle.formulas.proofs.Given.{Given, given-bind, given-weaker}
-use Rattle.formulas.proofs.Meets.{impossible-meets, from, through, shift-meets, then-meets}
+use Rattle.formulas.proofs.Meets.{impossible-meets, shift-meets, then-meets}
 use Rattle.formulas.proofs.Monoids.{Monoid, command-known, command-lacking}
 
 -- a set of numbers below n, made by a test
@@ -89,8 +89,8 @@ module _ (t : Table) (m : Monoid t) where
 
   -- ---- the formula of a list of symbols
 
-  from-is : (A e : ℕ) → e < t .count → from t (has A) e ≡ has (after-effect t A e)
-  from-is A e h = fun-ext (λ k. ap (λ b. b && (ltb k (t .count) && has A (join-of t e k))) (lt-ltb e (t .count) h) ∙ sym (has-made (λ k. has A (join-of t e k)) (t .count) k))
+  leading-is : (A e : ℕ) → e < t .count → leading t (has A) e ≡ has (after-effect t A e)
+  leading-is A e h = fun-ext (λ k. ap (λ b. b && (ltb k (t .count) && has A (join-of t e k))) (lt-ltb e (t .count) h) ∙ sym (has-made (λ k. has A (join-of t e k)) (t .count) k))
 
   module _ (limit : ℕ) (L : List (List ℕ)) where
     abbrev pub Says : List Symbol → List ℕ → Type 0
@@ -114,10 +114,10 @@ module _ (t : Table) (m : Monoid t) where
             small : e < t .count
             small = omega (arith, is, m .command c h)
 
-            each : (o : Option (List ℕ)) → ((A : ℕ) → Given o (λ S. meets (has A) S ≡ meets (from t (has A) e) R)) → Given o (Says (Command c ∷ s))
+            each : (o : Option (List ℕ)) → ((A : ℕ) → Given o (λ S. meets (has A) S ≡ meets (leading t (has A) e) R)) → Given o (Says (Command c ∷ s))
             each None f = tt
             each (Some S) f = λ A.
-                f A ∙ ap (λ p. meets p R) (from-is A e small) ∙ says (after-effect t A e)
+                f A ∙ ap (λ p. meets p R) (leading-is A e small) ∙ says (after-effect t A e)
                 ∙ after-winning (assigned (formula-at L)) A e s 0 small (m .some) ∙ ap (has (W A)) (m .right e small ∙ is ∙ sym (m .left (number-of t c) (m .command c h)))
                 ∙ sym (winning-known (assigned (formula-at L)) A c s 0 h (m .some))
 
@@ -127,21 +127,21 @@ module _ (t : Table) (m : Monoid t) where
         W : ℕ → ℕ
         W A = winning t (assigned (formula-at L)) A s
 
-        through-is : (A e : ℕ) → through t (has A) limit R e ≡ has (after-effect t (W A) 0) e
-        through-is A e = go (cases-lt e (t .count))
+        going-on-is : (A e : ℕ) → going-on t (has A) R e ≡ has (after-effect t (W A) 0) e
+        going-on-is A e = go (cases-lt e (t .count))
           where
-            go : (e < t .count) ⊎ (t .count ≤ e) → through t (has A) limit R e ≡ has (after-effect t (W A) 0) e
+            go : (e < t .count) ⊎ (t .count ≤ e) → going-on t (has A) R e ≡ has (after-effect t (W A) 0) e
             go (inl h) =
-                ap (λ b. b && meets (from t (has A) e) R) (lt-ltb e (t .count) h) ∙ ap (λ p. meets p R) (from-is A e h) ∙ says (after-effect t A e)
+                ap (λ b. b && meets (leading t (has A) e) R) (lt-ltb e (t .count) h) ∙ ap (λ p. meets p R) (leading-is A e h) ∙ says (after-effect t A e)
                 ∙ after-winning (assigned (formula-at L)) A e s 0 h (m .some) ∙ ap (has (W A)) (m .right e h ∙ sym (m .left e h)) ∙ sym (has-where (λ k. has (W A) (join-of t 0 k)) e h)
             go (inr h) =
-                ap (λ b. b && meets (from t (has A) e) R) (le-ltb e (t .count) h)
+                ap (λ b. b && meets (leading t (has A) e) R) (le-ltb e (t .count) h)
                 ∙ sym (has-above (t .count) (after-effect t (W A) 0) e (number-lt (λ k. has (W A) (join-of t 0 k)) (t .count)) h)
 
-        each : (o : Option (List ℕ)) → ((A : ℕ) → Given o (λ S. meets (has A) S ≡ meets (through t (has A) limit R) (formula-at L x))) → Given o (Says (Procedure x ∷ s))
+        each : (o : Option (List ℕ)) → ((A : ℕ) → Given o (λ S. meets (has A) S ≡ meets (going-on t (has A) R) (formula-at L x))) → Given o (Says (Procedure x ∷ s))
         each None f = tt
         each (Some S) f = λ A.
-            f A ∙ ap (λ (p : ℕ → Bool). meets p (formula-at L x)) (fun-ext (through-is A)) ∙ sym (winning-procedure (assigned (formula-at L)) A x s 0 (m .some))
+            f A ∙ ap (λ (p : ℕ → Bool). meets p (formula-at L x)) (fun-ext (going-on-is A)) ∙ sym (winning-procedure (assigned (formula-at L)) A x s 0 (m .some))
 
     pub body-says : (s : List Symbol) → Given (body-formula limit t L s) (Says s)
     body-says [] = λ A. ap (λ b. b && true) (hits-one (has A) 0) ∙ and-true (has A 0)

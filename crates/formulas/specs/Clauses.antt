@@ -13,7 +13,7 @@ use Rattle.formulas.specs.declared.clauses.Clauses.{Clauses}
 use Rattle.formulas.specs.declared.clauses.Overflow.{Overflow}
 use Rattle.formulas.specs.declared.clauses.offering.Spot.{Spot}
 use Rattle.formulas.specs.declared.clauses.offering.Spot.the-variants.{Held, At}
-use Rattle.formulas.specs.Formulas.{meets, offer, outside, placed}
+use Rattle.formulas.specs.Formulas.{meets, offer, offers, outside, placed}
 use Rattle.formulas.specs.Masks.{held}
 
 abbrev pub clause-list : Clauses → List ℕ
@@ -38,6 +38,11 @@ Spots C F (At i) = Stands C F i
 abbrev pub Offered : ℕ → List ℕ → List ℕ → Result (Unit {0}) Overflow → Type 0
 Offered C F G (Ok u) = offer 64 C F ≡ Some G
 Offered C F G (Err e) = (offer 64 C F ≡ None) × (G ≡ F)
+
+-- what is left of the clauses F where each of Cs was offered in order
+abbrev pub Offered-all : List ℕ → List ℕ → List ℕ → Result (Unit {0}) Overflow → Type 0
+Offered-all F Cs G (Ok u) = offers 64 F Cs ≡ Some G
+Offered-all F Cs G (Err e) = offers 64 F Cs ≡ None
 
 -- G meets the sets that F meets and in which C has a member
 abbrev pub And-also : List ℕ → ℕ → List ℕ → Type 0

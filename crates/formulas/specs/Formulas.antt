@@ -75,6 +75,14 @@ unions (K ∷ F) G = map (bitOr K) G ++ unions F G
 
 -- ---- by the joins of a table; a number that is none of its effects counts as absent
 
+-- the effects k that lead into A after e
+abbrev pub leading : Table → (ℕ → Bool) → ℕ → ℕ → Bool
+leading t A e k = ltb e (t .count) && (ltb k (t .count) && A (join-of t e k))
+
+-- the effects e after which G leads into A
+abbrev pub going-on : Table → (ℕ → Bool) → List ℕ → ℕ → Bool
+going-on t A G e = ltb e (t .count) && meets (leading t A e) G
+
 -- the joins of e with each of ks
 abbrev pub joins : Table → ℕ → List ℕ → List ℕ
 joins t e [] = []

@@ -1,5 +1,6 @@
 pub mod Clauses
 pub mod Equations
+pub mod FormulaViews
 pub mod Formulas
 pub mod Masks
 pub mod Rounds

@@ -1,14 +1,14 @@
 //! Offering a clause: "and this clause too".
 ghost use mathlib.Core.Path.{_≡_};
 ghost use mathlib.Core.Bool.{true};
-ghost use mathlib.Core.List.{[], _++_};
+ghost use mathlib.Core.List.{[], _∷_, _++_};
 ghost use Prim.Native.Nat.{_+_, _≤_, _<_};
 ghost use lib.Dec.{leb};
 ghost use lib.ListN.{length};
 ghost use Rattle.std.specs.Options.{Cases as BySome};
 ghost use Rattle.std.specs.Results.{Cases as ByOk};
 ghost use Rattle.foundation.specs.Bounds.{items};
-ghost use Rattle.formulas.specs.Clauses.{clause-list, Spots, entering, Offered, And-also};
+ghost use Rattle.formulas.specs.Clauses.{clause-list, Spots, entering, Offered, And-also, Offered-all};
 ghost use Rattle.formulas.specs.Formulas.{outside};
 ghost use Rattle.formulas.specs.Masks.{masks, held};
 use crate::clauses::Clauses;
@@ -32,6 +32,14 @@ impl Clauses {
         Clauses {
             sets: Bounded::empty(EffectSet::empty()),
         }
+    }
+
+    pub fn one(c: EffectSet) -> Clauses
+        ensures { λ r. ⌜ clause-list r ≡ c .bits ∷ [] ⌝ }
+    {
+        let mut sets = Bounded::empty(c);
+        sets.push(c);
+        Clauses { sets }
     }
 
     pub fn as_slice(&self) -> &[EffectSet]
@@ -93,6 +101,16 @@ impl Clauses {
                 Ok(())
             }
         }
+    }
+
+    /// Offers each clause of a list in order.
+    pub fn offer_all(&mut self, list: &[EffectSet]) -> Result<(), Overflow>
+        ensures { λ r. ⌜ Offered-all (clause-list (now (self .entry))) (masks (now (list .entry))) (clause-list (now (self .exit))) r ⌝ }
+    {
+        for clause in list {
+            self.offer(*clause)?;
+        }
+        Ok(())
     }
 }
 
