@@ -10,3 +10,4 @@ pub mod Trees
 pub mod Least
 pub mod Offering
 pub mod Offers
+pub mod Shifting

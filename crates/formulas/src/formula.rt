@@ -5,6 +5,7 @@ ghost use Rattle.formulas.specs.Clauses.{clause-list};
 use crate::clauses::Clauses;
 
 mod operations;
+mod shifting;
 
 /// 1 to 64 clauses, none within another, in rising order. Each clause is a choice of the station, each
 /// effect in it one of the field.
