@@ -22,7 +22,8 @@ use Rattle.formulas.specs.declared.symbol.Owner.{Owner}
 use Rattle.formulas.specs.declared.symbol.Owner.the-variants.{Station, Field}
 use Rattle.formulas.specs.declared.symbol.Symbol.{Symbol}
 use Rattle.formulas.specs.declared.symbol.Symbol.the-variants.{Command, Procedure}
-use Rattle.formulas.specs.Formulas.{bind, meets, impossible, neutral, Normal, Below-width, offers, unions, joins, joined, both, either, shift, or-after, and-after, then}
+use Rattle.formulas.specs.Steps.{bind}
+use Rattle.formulas.specs.Formulas.{meets, impossible, neutral, Normal, Below-width, offers, unions, joins, joined, both, either, shift, or-after, and-after, then}
 use Rattle.formulas.specs.Rounds.{formula-at, shift-by, body-formula, mixed, mixed-all, combined, next-owned, next-formula}
 use Rattle.formulas.specs.Symbols.{Entry, bodies, owner-of}
 use Rattle.formulas.specs.Winning.{Assignment, assigned, winning}
@@ -30,7 +31,7 @@ use Rattle.formulas.proofs.Given.{Given, given-bind, given-weaker}
 use Rattle.formulas.proofs.Meets.{impossible-meets, offers-meet, either-meets}
 use Rattle.formulas.proofs.Monoids.{Monoid}
 use Rattle.formulas.proofs.Normals.{offers-normal, offers-all, nil-normal, one-normal}
-use Rattle.formulas.proofs.Owners.{owner-belongs, record-body}
+use Rattle.formulas.proofs.Records.{owner-belongs, of-body}
 use Rattle.formulas.proofs.Winning.{body-says}
 
 -- ---- what the owner makes of the bodies
@@ -86,7 +87,7 @@ module _ (t : Table) (m : Monoid t) (limit : ℕ) (L : List (List ℕ)) where
   by-front Field p b bs = refl
 
   some-body : (rs : List Entry) (x : ℕ) (o : Owner) → owner-of rs x ≡ Some o → bodies rs x ≡ [] → ⊥
-  some-body rs x o e n = let r = owner-belongs rs x o e in elim (subst (List·Memᴰ (r .0 .body)) n (record-body rs x (r .0) (r .1))) [ ]
+  some-body rs x o e n = let r = owner-belongs rs x o e in elim (subst (List·Memᴰ (r .0 .body)) n (of-body rs x (r .0) (r .1))) [ ]
 
   -- the next formula of x meets the sets where x is won by its bodies
   pub next-says : (rs : List Entry) (x : ℕ) → Given (next-formula limit t rs L x) (λ R. (A : ℕ) → meets (has A) R ≡ by-owner (owner-of rs x) (wins A) (bodies rs x))
@@ -157,7 +158,7 @@ module _ (t : Table) (m : Monoid t) (limit : ℕ) where
   or-after-good G T (e ∷ es) a = go (ltb e (t .count)) (or-after-good G T es a) (λ U u. or-after-good G U es u)
     where
       go : (b : Bool) → Given (or-after limit t G T es) (Good t) → ((U : List ℕ) → Good t U → Given (or-after limit t G U es) (Good t))
-        → Given (cond b (bind (shift limit t e G) (λ S. bind (either limit T S) (λ U. or-after limit t G U es))) (or-after limit t G T es)) (Good t)
+          → Given (cond b (bind (shift limit t e G) (λ S. bind (either limit T S) (λ U. or-after limit t G U es))) (or-after limit t G T es)) (Good t)
       go false same ih = same
       go true same ih =
           given-bind (shift limit t e G) (λ S. bind (either limit T S) (λ U. or-after limit t G U es)) (Good t) (Good t) (shift-good e G)

@@ -4,7 +4,7 @@ use Prim.Native.Nat.{ℕ}
 use native.Mathlib.Omega.{arith}
 use Rattle.std.specs.declared.option.Option.{Option}
 use Rattle.std.specs.declared.option.Option.the-variants.{Some, None}
-use Rattle.formulas.specs.Formulas.{bind}
+use Rattle.formulas.specs.Steps.{bind}
 
 abbrev pub Given : {X : Type 0} → Option X → (X → Type 0) → Type 0
 Given None P = Unit {0}

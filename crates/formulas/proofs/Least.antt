@@ -24,7 +24,7 @@ use Rattle.formulas.specs.Winning.{Assignment, assigned, winning}
 use Rattle.formulas.proofs.Combining.{by-owner, next-says}
 use Rattle.formulas.proofs.Given.{given-some}
 use Rattle.formulas.proofs.Monoids.{Monoid}
-use Rattle.formulas.proofs.Owners.{body-record, record-body, owner-belongs, owner-none, belongs-owner}
+use Rattle.formulas.proofs.Records.{body-of, of-body, owner-belongs, owner-none, belongs-owner}
 use Rattle.formulas.proofs.Rounds.{Within, next-at, round-follows, round-good}
 use Rattle.formulas.proofs.Trees.{Fixed, tree-wins, wins-tree}
 use Rattle.formulas.proofs.Winning.{winning-procedure, after-none, body-says}
@@ -38,14 +38,14 @@ module _ (rs : List Entry) (agree : Agree rs) (t : Table) (m : Monoid t) where
 
     all-records : Decides (all (λ b. has (winning t φ A b) 0) (bodies rs x)) ((r : Entry) → Of rs x r → Wins-body rs t φ A r)
     all-records = (
-      λ h r f. all-in (λ b. has (winning t φ A b) 0) (record-body rs x r f) h,
-      λ h. in-all (λ b. has (winning t φ A b) 0) (bodies rs x) (λ b i. let r = body-record rs x b i in ap (λ c. has (winning t φ A c) 0) (sym (r .2)) ∙ h (r .0) (r .1)),
+      λ h r f. all-in (λ b. has (winning t φ A b) 0) (of-body rs x r f) h,
+      λ h. in-all (λ b. has (winning t φ A b) 0) (bodies rs x) (λ b i. let r = body-of rs x b i in ap (λ c. has (winning t φ A c) 0) (sym (r .2)) ∙ h (r .0) (r .1)),
     )
 
     some-record : Decides (any (λ b. has (winning t φ A b) 0) (bodies rs x)) ((r : Entry) × Of rs x r × Wins-body rs t φ A r)
     some-record = (
-      λ h. let p = any-in (λ b. has (winning t φ A b) 0) (bodies rs x) h in let r = body-record rs x (p .0) (p .1) in (r .0, r .1, ap (λ c. has (winning t φ A c) 0) (r .2) ∙ p .2),
-      λ r. in-any (λ b. has (winning t φ A b) 0) (record-body rs x (r .0) (r .1)) (r .2),
+      λ h. let p = any-in (λ b. has (winning t φ A b) 0) (bodies rs x) h in let r = body-of rs x (p .0) (p .1) in (r .0, r .1, ap (λ c. has (winning t φ A c) 0) (r .2) ∙ p .2),
+      λ r. in-any (λ b. has (winning t φ A b) 0) (of-body rs x (r .0) (r .1)) (r .2),
     )
 
   decided-as : {P : Type 0} (a b : Bool) → Decides a P → Decides b P → a ≡ b

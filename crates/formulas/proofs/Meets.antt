@@ -13,7 +13,8 @@ use Rattle.foundation.specs.Tests.{any, all}
 use Rattle.foundation.specs.laws.Members.{hits-none, hits-or, hits-gathered, hits-within}
 use Rattle.foundation.specs.laws.Tests.{all-map, all-append}
 use Rattle.rules.specs.Tables.{Table, join-of}
-use Rattle.formulas.specs.Formulas.{bind, meets, impossible, outside, placed, offer, offers, unions, leading, going-on, joins, joined, both, either, shift, or-after, and-after, then}
+use Rattle.formulas.specs.Steps.{bind}
+use Rattle.formulas.specs.Formulas.{meets, impossible, outside, placed, offer, offers, unions, leading, going-on, joins, joined, both, either, shift, or-after, and-after, then}
 use Rattle.formulas.proofs.Given.{Given, given-bind, given-weaker}
 
 -- ---- offering is "and this clause too"
@@ -40,7 +41,7 @@ module _ (A : ℕ → Bool) where
   outside-meets C (K ∷ F) = go (within C K) refl (outside-meets C F)
     where
       go : (b : Bool) → within C K ≡ b → (meets A (outside C F) && hits A C) ≡ (meets A F && hits A C)
-        → (meets A (cond (not b) (K ∷ outside C F) (outside C F)) && hits A C) ≡ ((hits A K && meets A F) && hits A C)
+          → (meets A (cond (not b) (K ∷ outside C F) (outside C F)) && hits A C) ≡ ((hits A K && meets A F) && hits A C)
       go true e ih = drop-implied (hits A C) (hits A K) (meets A F) (meets A (outside C F)) (hits-within A C K e) ih
       go false e ih = keep-one (hits A C) (hits A K) (meets A F) (meets A (outside C F)) ih
 
@@ -49,7 +50,7 @@ module _ (A : ℕ → Bool) where
   placed-meets C (K ∷ F) = go (ltb C K) (placed-meets C F)
     where
       go : (b : Bool) → meets A (placed C F) ≡ (meets A F && hits A C)
-        → meets A (cond b (C ∷ K ∷ F) (K ∷ placed C F)) ≡ ((hits A K && meets A F) && hits A C)
+          → meets A (cond b (C ∷ K ∷ F) (K ∷ placed C F)) ≡ ((hits A K && meets A F) && hits A C)
       go true ih = and-comm (hits A C) (hits A K && meets A F)
       go false ih = ap (λ b. hits A K && b) ih ∙ sym (and-assoc (hits A K) (meets A F) (hits A C))
 
@@ -58,7 +59,7 @@ module _ (A : ℕ → Bool) where
   held-meets C (K ∷ F) h = go (within K C) refl h (held-meets C F)
     where
       go : (b : Bool) → within K C ≡ b → (b || any (λ K. within K C) F) ≡ true → (any (λ K. within K C) F ≡ true → meets A F ≡ (meets A F && hits A C))
-        → (hits A K && meets A F) ≡ ((hits A K && meets A F) && hits A C)
+          → (hits A K && meets A F) ≡ ((hits A K && meets A F) && hits A C)
       go true e h ih = implied (hits A K) (hits A C) (meets A F) (hits-within A K C e)
       go false e h ih = ap (λ b. hits A K && b) (ih h) ∙ sym (and-assoc (hits A K) (meets A F) (hits A C))
 
@@ -125,7 +126,7 @@ module _ (t : Table) (A : ℕ → Bool) where
     or-after-meets G T (e ∷ es) = go (ltb e (t .count)) (or-after-meets G T es) (λ U. or-after-meets G U es)
       where
         go : (b : Bool) → Given (or-after limit t G T es) (λ R. meets A R ≡ (meets A T || any (going-on t A G) es)) → ((U : List ℕ) → Given (or-after limit t G U es) (λ R. meets A R ≡ (meets A U || any (going-on t A G) es)))
-          → Given (cond b (bind (shift limit t e G) (λ S. bind (either limit T S) (λ U. or-after limit t G U es))) (or-after limit t G T es)) (λ R. meets A R ≡ (meets A T || ((b && meets (leading t A e) G) || any (going-on t A G) es)))
+            → Given (cond b (bind (shift limit t e G) (λ S. bind (either limit T S) (λ U. or-after limit t G U es))) (or-after limit t G T es)) (λ R. meets A R ≡ (meets A T || ((b && meets (leading t A e) G) || any (going-on t A G) es)))
         go false same ih = same
         go true same ih =
             given-bind (shift limit t e G) (λ S. bind (either limit T S) (λ U. or-after limit t G U es)) (λ S. meets A S ≡ meets (leading t A e) G) (λ R. meets A R ≡ (meets A T || (meets (leading t A e) G || any (going-on t A G) es))) (shift-meets e G)

@@ -99,7 +99,7 @@ outside-in C [] K m = elim m [ ]
 outside-in C (L ∷ F) K m = go (within C L) refl m (outside-in C F K)
   where
     go : (b : Bool) → within C L ≡ b → List·Memᴰ K (cond (not b) (L ∷ outside C F) (outside C F)) → (List·Memᴰ K (outside C F) → List·Memᴰ K F × (within C K ≡ false))
-      → List·Memᴰ K (L ∷ F) × (within C K ≡ false)
+        → List·Memᴰ K (L ∷ F) × (within C K ≡ false)
     go true e m ih = let r = ih m in (List·Memᴰ·tail (r .0), r .1)
     go false e (List·Memᴰ·head q) ih = (List·Memᴰ·head q, ap (within C) q ∙ e)
     go false e (List·Memᴰ·tail m) ih = let r = ih m in (List·Memᴰ·tail (r .0), r .1)
@@ -237,8 +237,8 @@ module _ (w : ℕ) where
   same-rising (x ∷ F) (y ∷ G) rf rg f b =
       let e : x ≡ y = heads (List·Memᴰ·cases-cons (f x (List·Memᴰ·head refl))) (List·Memᴰ·cases-cons (b y (List·Memᴰ·head refl))) in
       ap₂ _∷_ e (same-rising F G (rf .1) (rg .1)
-        (λ z m. tails F G x y e (rf .0) z m (List·Memᴰ·cases-cons (f z (List·Memᴰ·tail m))))
-        (λ z m. tails G F y x (sym e) (rg .0) z m (List·Memᴰ·cases-cons (b z (List·Memᴰ·tail m)))))
+      (λ z m. tails F G x y e (rf .0) z m (List·Memᴰ·cases-cons (f z (List·Memᴰ·tail m))))
+      (λ z m. tails G F y x (sym e) (rg .0) z m (List·Memᴰ·cases-cons (b z (List·Memᴰ·tail m)))))
     where
       heads : (x ≡ y) ⊎ List·Memᴰ x G → (y ≡ x) ⊎ List·Memᴰ y F → x ≡ y
       heads (inl e) q = e

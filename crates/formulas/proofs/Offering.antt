@@ -97,10 +97,11 @@ module _ (C : ℕ) (xs : List EffectSet) (i : ℕ) (s : EffectSet) (at : Some s 
   passed-more w l =
       let K = mask s in
       let ne : K ≡ C → ⊥ = λ q. both-ways (within K C) w (ap (λ x. within x C) q ∙ within-self C) in
-      let le : K ≤ C = omega (arith, ltb-false C K l) in
-      (omega (arith, at-place .0),
-       all-more (λ K. (within K C ≡ false) × (K < C)) (masks xs) i 0 (at-place .0) (p .1)
-       (subst (λ x. (within x C ≡ false) × (x < C)) (sym (at-place .1)) (w, omega (arith, ne))))
+      let le : K ≤ C = omega (arith, ltb-false C K l) in (
+        omega (arith, at-place .0),
+        all-more (λ K. (within K C ≡ false) × (K < C)) (masks xs) i 0 (at-place .0) (p .1)
+            (subst (λ x. (within x C ≡ false) × (x < C)) (sym (at-place .1)) (w, omega (arith, ne))),
+      )
 
   pub spot-here : Ordered (masks xs) → ltb C (mask s) ≡ true → Stands C (masks xs) i
   spot-here o l = stands-at C (masks xs) i o p (λ h. omega (arith, at-place .1, ltb-true C (mask s) l))
@@ -139,11 +140,11 @@ module _ (C : ℕ) (old next : Bounded EffectSet 64) (rest : List EffectSet) (i 
   adding-full w full =
       let n = length (outside C (take i (masks rest))) in
       let one : length (outside C (take (i + 1) (masks rest))) ≡ n + 1 =
-        ap length (more ∙ ap (λ b. outside C (take i (masks rest)) ++ cond (not b) (getD rest i (record { bits = 0 }) .bits ∷ []) []) w) ∙ length-push (outside C (take i (masks rest))) (getD rest i (record { bits = 0 }) .bits) in
+      ap length (more ∙ ap (λ b. outside C (take i (masks rest)) ++ cond (not b) (getD rest i (record { bits = 0 }) .bits ∷ []) []) w) ∙ length-push (outside C (take i (masks rest))) (getD rest i (record { bits = 0 }) .bits) in
       let parts : length (outside C (masks rest)) ≡ length (outside C (take (i + 1) (masks rest))) + length (outside C (drop (i + 1) (masks rest))) =
-        ap (λ l. length (outside C l)) (sym (take-append-drop (i + 1) (masks rest)))
-        ∙ ap length (kept-by-append (λ K. not (within C K)) (take (i + 1) (masks rest)) (drop (i + 1) (masks rest)))
-        ∙ length-append (outside C (take (i + 1) (masks rest))) (outside C (drop (i + 1) (masks rest))) in
+      ap (λ l. length (outside C l)) (sym (take-append-drop (i + 1) (masks rest)))
+      ∙ ap length (kept-by-append (λ K. not (within C K)) (take (i + 1) (masks rest)) (drop (i + 1) (masks rest)))
+      ∙ length-append (outside C (take (i + 1) (masks rest))) (outside C (drop (i + 1) (masks rest))) in
       lt-leb (length (held old) + length (outside C (masks rest))) 64
       (omega (arith, ltb-false (length (items next)) 64 full, length-held next, ap length inv, length-append (held old) (outside C (take i (masks rest))), one, parts))
 
@@ -182,8 +183,16 @@ module _ (c : EffectSet) (xs slice : List EffectSet) (is : slice ≡ xs) (at : �
 
     pub entering-too-many : leb (length (held with-c) + length (outside (mask c) (masks (take (length slice - at) (drop at slice))))) 64 ≡ false → 64 < length (entering (mask c) (masks xs) at)
     entering-too-many full =
-        omega (arith, leb-false (length (held with-c) + length (outside (mask c) (masks (take (length slice - at) (drop at slice))))) 64 full,
-        ap length with-is, length-push (take at (masks xs)) (mask c), ap length (sym front-is), front-long, ap (λ l. length (outside (mask c) l)) rest-is, entering-long)
+        omega (
+          arith,
+          leb-false (length (held with-c) + length (outside (mask c) (masks (take (length slice - at) (drop at slice))))) 64 full,
+          ap length with-is,
+          length-push (take at (masks xs)) (mask c),
+          ap length (sym front-is),
+          front-long,
+          ap (λ l. length (outside (mask c) l)) rest-is,
+          entering-long,
+        )
 
     pub entering-made : (next : Bounded EffectSet 64) → held next ≡ held with-c ++ outside (mask c) (masks (take (length slice - at) (drop at slice))) → held next ≡ entering (mask c) (masks xs) at
     entering-made next e =

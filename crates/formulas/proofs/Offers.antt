@@ -18,7 +18,8 @@ use Rattle.foundation.specs.Sets.{within}
 use Rattle.foundation.specs.Tests.{any}
 use Rattle.formulas.specs.declared.clauses.Overflow.{Overflow}
 use Rattle.formulas.specs.Clauses.{Offered-all}
-use Rattle.formulas.specs.Formulas.{bind, outside, placed, offer, offers, unions}
+use Rattle.formulas.specs.Steps.{bind}
+use Rattle.formulas.specs.Formulas.{outside, placed, offer, offers, unions}
 use Rattle.formulas.specs.Masks.{mask, masks}
 use Rattle.formulas.proofs.Given.{Given, given-bind}
 
@@ -49,14 +50,14 @@ module _ (limit : ℕ) where
 
   -- the unions of K with the sets from a place on
   pub row-from : (F : List ℕ) (K : ℕ) (xs : List EffectSet) (i : ℕ) (o : Option (List ℕ)) → i < length xs → offer limit (bitOr K (mask (getD xs i (record { bits = 0 })))) F ≡ o
-    → offers limit F (map (bitOr K) (drop i (masks xs))) ≡ bind o (λ R. offers limit R (map (bitOr K) (drop (i + 1) (masks xs))))
+      → offers limit F (map (bitOr K) (drop i (masks xs))) ≡ bind o (λ R. offers limit R (map (bitOr K) (drop (i + 1) (masks xs))))
   row-from F K xs i o h e = ap (λ l. offers limit F (map (bitOr K) l)) (masks-from xs i h) ∙ ap (λ o. bind o (λ R. offers limit R (map (bitOr K) (drop (i + 1) (masks xs))))) e
 
   pub row-end : (F : List ℕ) (K : ℕ) (xs : List EffectSet) (i : ℕ) → length xs ≤ i → offers limit F (map (bitOr K) (drop i (masks xs))) ≡ Some F
   row-end F K xs i h = ap (λ l. offers limit F (map (bitOr K) l)) (masks-end xs i h)
 
   pub unions-from : (F : List ℕ) (xs : List EffectSet) (G : List ℕ) (i : ℕ) (o : Option (List ℕ)) → i < length xs → offers limit F (map (bitOr (mask (getD xs i (record { bits = 0 })))) G) ≡ o
-    → offers limit F (unions (drop i (masks xs)) G) ≡ bind o (λ R. offers limit R (unions (drop (i + 1) (masks xs)) G))
+      → offers limit F (unions (drop i (masks xs)) G) ≡ bind o (λ R. offers limit R (unions (drop (i + 1) (masks xs)) G))
   unions-from F xs G i o h e =
       ap (λ l. offers limit F (unions l G)) (masks-from xs i h)
       ∙ offers-append F (map (bitOr (mask (getD xs i (record { bits = 0 })))) G) (unions (drop (i + 1) (masks xs)) G)

@@ -21,7 +21,7 @@ use Rattle.formulas.specs.Symbols.{Entry, bodies, owner-of}
 use Rattle.formulas.proofs.Combining.{Good, impossible-good, next-good}
 use Rattle.formulas.proofs.Given.{Given, given-some}
 use Rattle.formulas.proofs.Monoids.{Monoid}
-use Rattle.formulas.proofs.Owners.{owner-belongs}
+use Rattle.formulas.proofs.Records.{owner-belongs}
 
 -- the records are of the procedures that there are
 abbrev pub Within : List Entry → Type 0

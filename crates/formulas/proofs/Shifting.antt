@@ -25,7 +25,8 @@ use Rattle.rules.specs.Surveys.{view}
 use Rattle.rules.specs.Tables.{Table, join-of}
 use Rattle.formulas.specs.declared.clauses.Overflow.{Overflow}
 use Rattle.formulas.specs.declared.formula.Formula.{Formula}
-use Rattle.formulas.specs.Formulas.{bind, impossible, offer, offers, joins, joined, both, either, shift, or-after, and-after}
+use Rattle.formulas.specs.Steps.{bind}
+use Rattle.formulas.specs.Formulas.{impossible, offer, offers, joins, joined, both, either, shift, or-after, and-after}
 use Rattle.formulas.specs.FormulaViews.{found}
 use Rattle.formulas.specs.Masks.{mask, masks}
 use Rattle.formulas.proofs.Monoids.{Monoid, table-monoid}
@@ -99,7 +100,7 @@ joins-all t e K i out h inv = sym (or-zero-r out) ∙ ap (λ l. bitOr out (gathe
 
 module _ (limit : ℕ) (t : Table) (G : List ℕ) where
   pub shift-from : (e : ℕ) (F : List ℕ) (xs : List EffectSet) (i : ℕ) (o : Option (List ℕ)) → i < length xs → offer limit (joined t e (mask (getD xs i (record { bits = 0 })))) F ≡ o
-    → offers limit F (map (joined t e) (drop i (masks xs))) ≡ bind o (λ R. offers limit R (map (joined t e) (drop (i + 1) (masks xs))))
+      → offers limit F (map (joined t e) (drop i (masks xs))) ≡ bind o (λ R. offers limit R (map (joined t e) (drop (i + 1) (masks xs))))
   shift-from e F xs i o h q = ap (λ l. offers limit F (map (joined t e) l)) (masks-from xs i h) ∙ ap (λ o. bind o (λ R. offers limit R (map (joined t e) (drop (i + 1) (masks xs))))) q
 
   pub shift-end : (e : ℕ) (F : List ℕ) (xs : List EffectSet) (i : ℕ) → length xs ≤ i → offers limit F (map (joined t e) (drop i (masks xs))) ≡ Some F
@@ -123,11 +124,11 @@ module _ (limit : ℕ) (t : Table) (G : List ℕ) where
   or-end T K i h = ap (or-after limit t G T) (drop-all i (members K) h)
 
   pub and-from : (R : List ℕ) (xs : List EffectSet) (i : ℕ) (o : Option (List ℕ)) → i < length xs → or-after limit t G impossible (members (mask (getD xs i (record { bits = 0 })))) ≡ o
-    → and-after limit t G R (drop i (masks xs)) ≡ bind o (λ T. bind (both limit R T) (λ S. and-after limit t G S (drop (i + 1) (masks xs))))
+      → and-after limit t G R (drop i (masks xs)) ≡ bind o (λ T. bind (both limit R T) (λ S. and-after limit t G S (drop (i + 1) (masks xs))))
   and-from R xs i o h q = ap (and-after limit t G R) (masks-from xs i h) ∙ ap (λ o. bind o (λ T. bind (both limit R T) (λ S. and-after limit t G S (drop (i + 1) (masks xs))))) q
 
   pub and-more : (R : List ℕ) (xs : List EffectSet) (i : ℕ) (T : List ℕ) → i < length xs → or-after limit t G impossible (members (mask (getD xs i (record { bits = 0 })))) ≡ Some T → (o : Option (List ℕ)) → both limit R T ≡ o
-    → and-after limit t G R (drop i (masks xs)) ≡ bind o (λ S. and-after limit t G S (drop (i + 1) (masks xs)))
+      → and-after limit t G R (drop i (masks xs)) ≡ bind o (λ S. and-after limit t G S (drop (i + 1) (masks xs)))
   and-more R xs i T h q o r = and-from R xs i (Some T) h q ∙ ap (λ o. bind o (λ S. and-after limit t G S (drop (i + 1) (masks xs)))) r
 
   pub and-end : (R : List ℕ) (xs : List EffectSet) (i : ℕ) → length xs ≤ i → and-after limit t G R (drop i (masks xs)) ≡ Some R

@@ -30,7 +30,7 @@ use Rattle.formulas.proofs.Combining.{by-owner, next-says}
 use Rattle.formulas.proofs.Given.{given-some}
 use Rattle.formulas.proofs.Meets.{impossible-meets}
 use Rattle.formulas.proofs.Monoids.{Monoid}
-use Rattle.formulas.proofs.Owners.{body-record, record-body, owner-belongs, belongs-owner}
+use Rattle.formulas.proofs.Records.{body-of, of-body, owner-belongs, belongs-owner}
 use Rattle.formulas.proofs.Rounds.{Within, first-at, next-at, round-follows}
 use Rattle.formulas.proofs.Winning.{winning-lt, winning-append, winning-known, winning-lacking, winning-procedure, after-winning, winning-from}
 
@@ -87,14 +87,14 @@ module _ (rs : List Entry) (agree : Agree rs) (t : Table) (m : Monoid t) where
         let won : has (winning t φ A (r .body ++ rest)) k ≡ true = sym (winning-passed t m φ A w (r .body ++ rest) e below start) ∙ tree-wins v in
         ap (λ z. has (winning t φ A z) e) p ∙ winning-passed t m φ A w (Procedure x ∷ rest) e below start ∙ step-is x rest k lt
         ∙ ap (λ o. by-owner o (λ b. has (winning t φ (after-effect t (winning t φ A rest) k) b) 0) (bodies rs x)) (belongs-owner rs agree x Field b)
-        ∙ in-any (λ b. has (winning t φ (after-effect t (winning t φ A rest) k) b) 0) (record-body rs x r f) (winning-from t m φ A k (r .body) rest lt ∙ won)
+        ∙ in-any (λ b. has (winning t φ (after-effect t (winning t φ A rest) k) b) 0) (of-body rs x r f) (winning-from t m φ A k (r .body) rest lt ∙ won)
     tree-wins (every w x rest p b v) =
         let below = winning-below t m φ A w (b .0 .body ++ rest) e start (tree-wins (v (b .0) (b .1))) in
         let k = join-of t e (effect-number t w) in
         let lt = m .closed e (effect-number t w) start (effect-lt t m w below) in
         let won : (r : Entry) → Of rs x r → has (winning t φ A (r .body ++ rest)) k ≡ true = λ r f. sym (winning-passed t m φ A w (r .body ++ rest) e below start) ∙ tree-wins (v r f) in
         let each : (c : List Symbol) → List·Memᴰ c (bodies rs x) → has (winning t φ (after-effect t (winning t φ A rest) k) c) 0 ≡ true =
-          λ c i. let r = body-record rs x c i in winning-from t m φ A k c rest lt ∙ ap (λ d. has (winning t φ A (d ++ rest)) k) (sym (r .2)) ∙ won (r .0) (r .1) in
+        λ c i. let r = body-of rs x c i in winning-from t m φ A k c rest lt ∙ ap (λ d. has (winning t φ A (d ++ rest)) k) (sym (r .2)) ∙ won (r .0) (r .1) in
         ap (λ z. has (winning t φ A z) e) p ∙ winning-passed t m φ A w (Procedure x ∷ rest) e below start ∙ step-is x rest k lt
         ∙ ap (λ o. by-owner o (λ b. has (winning t φ (after-effect t (winning t φ A rest) k) b) 0) (bodies rs x)) (belongs-owner rs agree x Station b)
         ∙ in-all (λ b. has (winning t φ (after-effect t (winning t φ A rest) k) b) 0) (bodies rs x) each
@@ -123,7 +123,7 @@ module _ (rs : List Entry) (agree : Agree rs) (t : Table) (m : Monoid t) where
     module _ (L : List (List ℕ)) where
       -- after one command more
       by-command : (c : ℕ) (β : List Symbol) (B : ℕ) (w : List ℕ) → Below (t .commands) w → has (winning t (assigned (formula-at L)) B (Command c ∷ β)) (join-of t e (effect-number t w)) ≡ true
-        → Below (t .commands) (w ++ c ∷ []) × (has (winning t (assigned (formula-at L)) B β) (join-of t e (effect-number t (w ++ c ∷ []))) ≡ true)
+          → Below (t .commands) (w ++ c ∷ []) × (has (winning t (assigned (formula-at L)) B β) (join-of t e (effect-number t (w ++ c ∷ []))) ≡ true)
       by-command c β B w h won = go (cases-lt c (t .commands))
         where
           φ : Assignment
@@ -134,9 +134,10 @@ module _ (rs : List Entry) (agree : Agree rs) (t : Table) (m : Monoid t) where
               let x = number-of t c in
               let l = m .command c p in
               let is : join-of t e (effect-number t (w ++ c ∷ [])) ≡ join-of t (join-of t e (effect-number t w)) x =
-                ap (join-of t e) (effect-append t m w (c ∷ []) h (p, tt) ∙ ap (join-of t (effect-number t w)) (m .right x l)) ∙ sym (m .assoc e (effect-number t w) x start (effect-lt t m w h) l) in
-              (all-append (λ c. c < t .commands) w (c ∷ []) h (p, tt),
-               ap (has (winning t (assigned (formula-at L)) B β)) is ∙ sym (winning-known t m (assigned (formula-at L)) B c β (join-of t e (effect-number t w)) p (place-lt w h)) ∙ won)
+              ap (join-of t e) (effect-append t m w (c ∷ []) h (p, tt) ∙ ap (join-of t (effect-number t w)) (m .right x l)) ∙ sym (m .assoc e (effect-number t w) x start (effect-lt t m w h) l) in (
+                all-append (λ c. c < t .commands) w (c ∷ []) h (p, tt),
+                ap (has (winning t (assigned (formula-at L)) B β)) is ∙ sym (winning-known t m (assigned (formula-at L)) B c β (join-of t e (effect-number t w)) p (place-lt w h)) ∙ won,
+              )
           go (inr p) = absurd (false≢true (sym (winning-lacking t m (assigned (formula-at L)) B c β (join-of t e (effect-number t w)) p) ∙ won))
 
     sound-none : (L : List (List ℕ)) → ((x : ℕ) → formula-at L x ≡ impossible) → Sound L
@@ -172,21 +173,21 @@ module _ (rs : List Entry) (agree : Agree rs) (t : Table) (m : Monoid t) where
 
           -- a body, and then what is left
           on : (c : List Symbol) → has (winning t (assigned (formula-at L)) (after-effect t W k) c) 0 ≡ true → ((v : List ℕ) → Below (t .commands) v → has W (join-of t e (effect-number t v)) ≡ true → Tree rs Leaf (commands v ++ (β ++ γ)))
-            → Tree rs Leaf (commands w ++ (c ++ (β ++ γ)))
+              → Tree rs Leaf (commands w ++ (c ++ (β ++ γ)))
           on c i tail =
               ih c W (β ++ γ) w small h
               (sym (after-winning t m (assigned (formula-at L)) W k c 0 (place-lt w h) (m .some) ∙ ap (has (winning t (assigned (formula-at L)) W c)) (m .right k (place-lt w h))) ∙ i) tail
 
           go : (o : Option Owner) → owner-of rs x ≡ o → by-owner (owner-of rs x) (λ b. has (winning t (assigned (formula-at L)) (after-effect t W k) b) 0) (bodies rs x) ≡ true
-            → ((v : List ℕ) → Below (t .commands) v → has W (join-of t e (effect-number t v)) ≡ true → Tree rs Leaf (commands v ++ (β ++ γ))) → Tree rs Leaf (commands w ++ (Procedure x ∷ (β ++ γ)))
+              → ((v : List ℕ) → Below (t .commands) v → has W (join-of t e (effect-number t v)) ≡ true → Tree rs Leaf (commands v ++ (β ++ γ))) → Tree rs Leaf (commands w ++ (Procedure x ∷ (β ++ γ)))
           go None o d tail = absurd (false≢true (ap (λ v. by-owner v (λ b. has (winning t (assigned (formula-at L)) (after-effect t W k) b) 0) (bodies rs x)) (sym o) ∙ d))
           go (Some Field) o d tail =
               let p = any-in (λ b. has (winning t (assigned (formula-at L)) (after-effect t W k) b) 0) (bodies rs x) (ap (λ v. by-owner v (λ b. has (winning t (assigned (formula-at L)) (after-effect t W k) b) 0) (bodies rs x)) (sym o) ∙ d) in
-              let r = body-record rs x (p .0) (p .1) in
+              let r = body-of rs x (p .0) (p .1) in
               one w x (β ++ γ) refl (owner-belongs rs x Field o) (r .0) (r .1) (subst (λ c. Tree rs Leaf (commands w ++ (c ++ (β ++ γ)))) (sym (r .2)) (on (p .0) (p .2) tail))
           go (Some Station) o d tail =
               let a = ap (λ v. by-owner v (λ b. has (winning t (assigned (formula-at L)) (after-effect t W k) b) 0) (bodies rs x)) (sym o) ∙ d in
-              every w x (β ++ γ) refl (owner-belongs rs x Station o) (λ r f. on (r .body) (all-in (λ b. has (winning t (assigned (formula-at L)) (after-effect t W k) b) 0) (record-body rs x r f) a) tail)
+              every w x (β ++ γ) refl (owner-belongs rs x Station o) (λ r f. on (r .body) (all-in (λ b. has (winning t (assigned (formula-at L)) (after-effect t W k) b) 0) (of-body rs x r f) a) tail)
 
     sound-round : (limit : ℕ) → Within rs → (k : ℕ) (L : List (List ℕ)) → round limit rs t k ≡ Ok L → Sound L
     sound-round limit within zero L q = let z : first-round ≡ L = cc in sound-none L (λ x. ap (λ l. formula-at l x) (sym z) ∙ first-at x)
@@ -195,7 +196,7 @@ module _ (rs : List Entry) (agree : Agree rs) (t : Table) (m : Monoid t) where
         sound-next limit (f .last) M (next-at limit rs within t (f .last) M (f .next)) (sound-round limit within k (f .last) (f .is))
 
   pub wins-tree : (limit : ℕ) → Within rs → (k : ℕ) (L : List (List ℕ)) → round limit rs t k ≡ Ok L → (A e : ℕ) → A < 2 ^ t .count → e < t .count → (s : List Symbol)
-    → has (winning t (assigned (formula-at L)) A s) e ≡ true → Tree rs (Leads-into t A e) s
+      → has (winning t (assigned (formula-at L)) A s) e ≡ true → Tree rs (Leads-into t A e) s
   wins-tree limit within k L q A e small start s won =
       subst (Tree rs (Leads-into t A e)) (append-nil s)
       (sound-round (Leads-into t A e) e start limit within k L q s A [] [] small tt (ap (has (winning t (assigned (formula-at L)) A s)) (m .right e start) ∙ won)

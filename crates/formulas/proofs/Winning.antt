@@ -18,7 +18,8 @@ use Rattle.rules.specs.Lookups.{table-command}
 use Rattle.rules.specs.Tables.{Table, number-of, join-of}
 use Rattle.formulas.specs.declared.symbol.Symbol.{Symbol}
 use Rattle.formulas.specs.declared.symbol.Symbol.the-variants.{Command, Procedure}
-use Rattle.formulas.specs.Formulas.{bind, meets, impossible, leading, going-on, shift, then}
+use Rattle.formulas.specs.Steps.{bind}
+use Rattle.formulas.specs.Formulas.{meets, impossible, leading, going-on, shift, then}
 use Rattle.formulas.specs.Rounds.{formula-at, shift-by, body-formula}
 use Rattle.formulas.specs.Winning.{Assignment, assigned, effects-where, after-effect, before-command, before-procedure, winning}
 use Rattle.formulas.proofs.Given.{Given, given-bind, given-weaker}
@@ -71,7 +72,7 @@ module _ (t : Table) (m : Monoid t) where
     after-winning A e (Command c ∷ s) k h l = go (cases-lt c (t .commands)) (after-winning A e s)
       where
         go : (c < t .commands) ⊎ (t .commands ≤ c) → ((k : ℕ) → e < t .count → k < t .count → has (winning t φ (after-effect t A e) s) k ≡ has (winning t φ A s) (join-of t e k))
-          → has (winning t φ (after-effect t A e) (Command c ∷ s)) k ≡ has (winning t φ A (Command c ∷ s)) (join-of t e k)
+            → has (winning t φ (after-effect t A e) (Command c ∷ s)) k ≡ has (winning t φ A (Command c ∷ s)) (join-of t e k)
         go (inl q) ih =
             winning-known (after-effect t A e) c s k q l ∙ ih (join-of t k (number-of t c)) h (m .closed k (number-of t c) l (m .command c q))
             ∙ ap (has (winning t φ A s)) (sym (m .assoc e k (number-of t c) h l (m .command c q))) ∙ sym (winning-known A c s (join-of t e k) q (m .closed e k h l))

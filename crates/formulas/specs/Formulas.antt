@@ -14,11 +14,7 @@ use Rattle.std.specs.shelf.Lists.{All, kept-by}
 use Rattle.foundation.specs.Sets.{within, members, gathered, hits}
 use Rattle.foundation.specs.Tests.{any, all}
 use Rattle.rules.specs.Tables.{Table, join-of}
-
--- the next step, where there is a result so far
-abbrev pub bind : {X Y : Type 0} → Option X → (X → Option Y) → Option Y
-bind None f = None
-bind (Some x) f = f x
+use Rattle.formulas.specs.Steps.{bind}
 
 abbrev pub meets : (ℕ → Bool) → List ℕ → Bool
 meets A F = all (hits A) F

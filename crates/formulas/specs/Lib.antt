@@ -1,9 +1,16 @@
+pub mod Checks
 pub mod Clauses
+pub mod Entries
 pub mod Equations
 pub mod FormulaViews
 pub mod Formulas
 pub mod Masks
+pub mod RecordForms
+pub mod Records
+pub mod Refusals
 pub mod Rounds
+pub mod Searches
+pub mod Steps
 pub mod Symbols
 pub mod Trees
 pub mod Winning

@@ -13,7 +13,8 @@ use Rattle.formulas.specs.declared.symbol.Owner.{Owner}
 use Rattle.formulas.specs.declared.symbol.Owner.the-variants.{Station, Field}
 use Rattle.formulas.specs.declared.symbol.Symbol.{Symbol}
 use Rattle.formulas.specs.declared.symbol.Symbol.the-variants.{Command, Procedure}
-use Rattle.formulas.specs.Formulas.{bind, impossible, neutral, both, either, shift, then}
+use Rattle.formulas.specs.Steps.{bind}
+use Rattle.formulas.specs.Formulas.{impossible, neutral, both, either, shift, then}
 use Rattle.formulas.specs.Symbols.{Entry, bodies, owner-of}
 
 -- how many procedures there are

@@ -1,4 +1,7 @@
 //! Procedure sets, formulas over effect numbers, and the rounds that settle them.
 pub mod clauses;
+pub mod fault;
 pub mod formula;
+pub mod procedure_set;
+pub mod record;
 pub mod symbol;

@@ -52,9 +52,7 @@ impl Formula {
         let mut after = Formula::impossible();
         let mut rest = effects;
         for _ in 0..effects.len() {
-            let Some(e) = rest.first() else {
-                unreachable()
-            };
+            let Some(e) = rest.first() else { unreachable() };
             rest = rest.without_first();
             if usize::from(e) < table.effects() {
                 let shifted = self.shift(table, e)?;

@@ -73,10 +73,10 @@ low-or a b = sym (has-low (bitOr a b)) ∙ has-or a b 0 ∙ ap₂ (λ (x y : Boo
 pub hits-or : (a b : ℕ) (A : ℕ → Bool) → hits A (bitOr a b) ≡ (hits A a || hits A b)
 hits-or a =
     bin-ind (λ (n : ℕ). (b : ℕ) (A : ℕ → Bool) → hits A (bitOr n b) ≡ (hits A n || hits A b)) (λ b A. rw (hits-none A))
-      (λ n ih b A. hits-step A (bitOr n b)
-        ∙ ap₂ (λ (x y : Bool). (x && A 0) || y) (low-or n b) (ap (hits (λ k. A (suc k))) (or-shr n b 1) ∙ ih (b / 2) (λ k. A (suc k)))
-        ∙ shuffle (eqb (n % 2) 1) (eqb (b % 2) 1) (A 0) (hits (λ k. A (suc k)) (n / 2)) (hits (λ k. A (suc k)) (b / 2))
-        ∙ sym (ap₂ (λ (x y : Bool). x || y) (hits-step A n) (hits-step A b))) a
+    (λ n ih b A. hits-step A (bitOr n b)
+    ∙ ap₂ (λ (x y : Bool). (x && A 0) || y) (low-or n b) (ap (hits (λ k. A (suc k))) (or-shr n b 1) ∙ ih (b / 2) (λ k. A (suc k)))
+    ∙ shuffle (eqb (n % 2) 1) (eqb (b % 2) 1) (A 0) (hits (λ k. A (suc k)) (n / 2)) (hits (λ k. A (suc k)) (b / 2))
+    ∙ sym (ap₂ (λ (x y : Bool). x || y) (hits-step A n) (hits-step A b))) a
 
 pub hits-one : (A : ℕ → Bool) (k : ℕ) → hits A (2 ^ k) ≡ A k
 unfolding members members-in
@@ -104,16 +104,16 @@ low-clear s e =
     let h : (s - 1) / 2 ≡ s / 2 = omega arith in
     let z : (s - 1) % 2 ≡ 0 = omega arith in
     let t : bitAnd s (s - 1) ≡ s / 2 * 2 + 0 =
-      and-step s (s - 1) ∙ ap (λ x. bitAnd (s / 2) x * 2 + min (s % 2) ((s - 1) % 2)) h ∙ ap (λ x. x * 2 + min (s % 2) ((s - 1) % 2)) (and-self (s / 2))
-      ∙ (let y : s / 2 * 2 + min (s % 2) ((s - 1) % 2) ≡ s / 2 * 2 + 0 = omega arith in y) in
+    and-step s (s - 1) ∙ ap (λ x. bitAnd (s / 2) x * 2 + min (s % 2) ((s - 1) % 2)) h ∙ ap (λ x. x * 2 + min (s % 2) ((s - 1) % 2)) (and-self (s / 2))
+    ∙ (let y : s / 2 * 2 + min (s % 2) ((s - 1) % 2) ≡ s / 2 * 2 + 0 = omega arith in y) in
     (omega arith, omega arith)
 
 high-clear : (s : ℕ) → 0 < s → s % 2 ≡ 0 → (bitAnd s (s - 1) % 2 ≡ 0) × (bitAnd s (s - 1) / 2 ≡ bitAnd (s / 2) (s / 2 - 1))
 high-clear s p e =
     let h : (s - 1) / 2 ≡ s / 2 - 1 = omega arith in
     let t : bitAnd s (s - 1) ≡ bitAnd (s / 2) (s / 2 - 1) * 2 + 0 =
-      and-step s (s - 1) ∙ ap (λ x. bitAnd (s / 2) x * 2 + min (s % 2) ((s - 1) % 2)) h
-      ∙ (let y : bitAnd (s / 2) (s / 2 - 1) * 2 + min (s % 2) ((s - 1) % 2) ≡ bitAnd (s / 2) (s / 2 - 1) * 2 + 0 = omega arith in y) in
+    and-step s (s - 1) ∙ ap (λ x. bitAnd (s / 2) x * 2 + min (s % 2) ((s - 1) % 2)) h
+    ∙ (let y : bitAnd (s / 2) (s / 2 - 1) * 2 + min (s % 2) ((s - 1) % 2) ≡ bitAnd (s / 2) (s / 2 - 1) * 2 + 0 = omega arith in y) in
     (omega arith, omega arith)
 
 members-odd : (s : ℕ) → s % 2 ≡ 1 → members s ≡ 0 ∷ map suc (members (s / 2))
@@ -131,15 +131,15 @@ members-more (suc w) s p h =
     let t = trailingZeros w (s / 2) in
     ⊎-elim
     (λ (e : s % 2 ≡ 0).
-      let k = high-clear s p e in
-      members-even s e ∙ ap (map suc) (members-more w (s / 2) (omega arith) (omega (arith, pow-suc 2 w)))
-      ∙ ap (λ d. under d t ∷ map suc (members (bitAnd (s / 2) (s / 2 - 1)))) (sym e)
-      ∙ ap (λ l. under (s % 2) t ∷ l) (sym (members-even b (k .0) ∙ ap (λ x. map suc (members x)) (k .1))))
+    let k = high-clear s p e in
+    members-even s e ∙ ap (map suc) (members-more w (s / 2) (omega arith) (omega (arith, pow-suc 2 w)))
+    ∙ ap (λ d. under d t ∷ map suc (members (bitAnd (s / 2) (s / 2 - 1)))) (sym e)
+    ∙ ap (λ l. under (s % 2) t ∷ l) (sym (members-even b (k .0) ∙ ap (λ x. map suc (members x)) (k .1))))
     (λ (e : s % 2 ≡ 1).
-      let k = low-clear s e in
-      members-odd s e
-      ∙ ap (λ d. under d t ∷ map suc (members (s / 2))) (sym e)
-      ∙ ap (λ l. under (s % 2) t ∷ l) (sym (members-even b (k .0) ∙ ap (λ x. map suc (members x)) (k .1))))
+    let k = low-clear s e in
+    members-odd s e
+    ∙ ap (λ d. under d t ∷ map suc (members (s / 2))) (sym e)
+    ∙ ap (λ l. under (s % 2) t ∷ l) (sym (members-even b (k .0) ∙ ap (λ x. map suc (members x)) (k .1))))
     (two-ways (s % 2) (omega arith))
 
 -- there are as many as the number has ones
@@ -147,10 +147,10 @@ pub members-ones : (s : ℕ) → length (members s) ≡ ones s
 unfolding ones
 members-ones =
     bin-ind (λ (s : ℕ). length (members s) ≡ ones s) (ap length members-none)
-      (λ s ih. ⊎-elim
-        (λ (e : s % 2 ≡ 0). ap length (members-even s e) ∙ length-map (members (s / 2)) suc ∙ ih ∙ omega (arith, ones-step s))
-        (λ (e : s % 2 ≡ 1). ap length (members-odd s e) ∙ ap suc (length-map (members (s / 2)) suc ∙ ih) ∙ omega (arith, ones-step s))
-        (two-ways (s % 2) (omega arith)))
+    (λ s ih. ⊎-elim
+    (λ (e : s % 2 ≡ 0). ap length (members-even s e) ∙ length-map (members (s / 2)) suc ∙ ih ∙ omega (arith, ones-step s))
+    (λ (e : s % 2 ≡ 1). ap length (members-odd s e) ∙ ap suc (length-map (members (s / 2)) suc ∙ ih) ∙ omega (arith, ones-step s))
+    (two-ways (s % 2) (omega arith)))
 
 -- ---- by membership
 

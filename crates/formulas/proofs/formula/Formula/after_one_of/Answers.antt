@@ -45,14 +45,15 @@ loop-again c =
     let is = picked-is K (c .loop .rest .bits) i (c .loop .inv .0) h (c .in-Some .e) (c .in-Some .ensures tt .listed) in (
       picked-rest K (c .loop .rest .bits) i (c .loop .inv .0) h (c .without-first-rest .result .bits) (c .without-first-rest .ensures .listed),
       elim (c .if-from-effects .came) [
-        then-from-effects·in-Continue-shifted·in-Continue-after w ↦
-        ap (λ f. or-after 64 t G (formula-list f) (drop (i + 1) (members K))) (w .after-is)
-        ∙ sym (or-more 64 t G T K i (c .in-Some .e) h is (omega (arith, w .if-from-effects .taken, c .from .ensures, c .effects .ensures)) (formula-list (w .in-Continue-shifted .shifted)) (sym (w .in-Continue-shifted .ensures tt .value))
-        (Some (formula-list (w .in-Continue-after .after))) (sym (w .in-Continue-after .ensures tt .value)))
-        ∙ c .loop .inv .1
-      | else-from-effects w ↦
-        ap (λ f. or-after 64 t G (formula-list f) (drop (i + 1) (members K))) (w .after-is)
-        ∙ sym (or-absent 64 t G T K i (c .in-Some .e) h is (omega (arith, w .if-from-effects .left, c .from .ensures, c .effects .ensures))) ∙ c .loop .inv .1 ],
+        | then-from-effects·in-Continue-shifted·in-Continue-after w ↦
+            ap (λ f. or-after 64 t G (formula-list f) (drop (i + 1) (members K))) (w .after-is)
+            ∙ sym (or-more 64 t G T K i (c .in-Some .e) h is (omega (arith, w .if-from-effects .taken, c .from .ensures, c .effects .ensures)) (formula-list (w .in-Continue-shifted .shifted)) (sym (w .in-Continue-shifted .ensures tt .value))
+            (Some (formula-list (w .in-Continue-after .after))) (sym (w .in-Continue-after .ensures tt .value)))
+            ∙ c .loop .inv .1
+        | else-from-effects w ↦
+            ap (λ f. or-after 64 t G (formula-list f) (drop (i + 1) (members K))) (w .after-is)
+            ∙ sym (or-absent 64 t G T K i (c .in-Some .e) h is (omega (arith, w .if-from-effects .left, c .from .ensures, c .effects .ensures))) ∙ c .loop .inv .1
+      ],
     )
 
 pub returns : need.returns

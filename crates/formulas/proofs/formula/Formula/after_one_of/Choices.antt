@@ -11,4 +11,4 @@ abbrev pub Inv-loop : given.InvT-loop
 Inv-loop l =
     Picking (l .entry .rest .bits) (l .rest .bits) (l .counter)
     × (or-after 64 (view (l .table)) (formula-list (l .self)) (formula-list (l .after)) (drop (l .counter) (members (l .entry .rest .bits)))
-      ≡ or-after 64 (view (l .table)) (formula-list (l .self)) impossible (members (l .entry .rest .bits)))
+    ≡ or-after 64 (view (l .table)) (formula-list (l .self)) impossible (members (l .entry .rest .bits)))

@@ -43,9 +43,10 @@ made c =
     let ys = c .clauses-theirs .result .now in
     ap₂ (λ F G. offers 64 [] (unions F G)) (sym (c .clauses-ours .ensures)) (sym (c .clauses-theirs .ensures))
     ∙ elim (c .unions-test .came) [
-      else-unions-test w ↦
-      sym (c .unions .inv .1) ∙ unions-end 64 (clause-list (c .unions .clauses)) xs (masks ys) (c .unions .k-index) (w .unions-test .left) ∙ ap (λ o. Some (clause-list o)) (sym (w .clauses-is))
-    | then-unions-test·then-loop-l-test·in-rest w ↦ absurd (both-ways (c .unions-test .full) (c .if-full .left) (w .full-is)) ]
+      | else-unions-test w ↦
+          sym (c .unions .inv .1) ∙ unions-end 64 (clause-list (c .unions .clauses)) xs (masks ys) (c .unions .k-index) (w .unions-test .left) ∙ ap (λ o. Some (clause-list o)) (sym (w .clauses-is))
+      | then-unions-test·then-loop-l-test·in-rest w ↦ absurd (both-ways (c .unions-test .full) (c .if-full .left) (w .full-is))
+    ]
 
 pub ghost-result : need.ghost-result
 ghost-result c =
@@ -60,13 +61,14 @@ returns-then-full c =
     record {
       value = sym (ap₂ (λ F G. offers 64 [] (unions F G)) (sym (c .clauses-ours .ensures)) (sym (c .clauses-theirs .ensures))
           ∙ elim (c .unions-test .came) [
-            else-unions-test w ↦ absurd (both-ways (c .unions .full) (c .unions .inv .0) (sym (w .full-is) ∙ c .if-full .taken))
-          | then-unions-test·then-loop-l-test·in-rest w ↦
-            let k = getD xs (c .unions .k-index) (record { bits = 0 }) .bits in
-            let old = clause-list (w .loop-l .clauses) in
-            sym (c .unions .inv .1)
-            ∙ unions-from 64 (clause-list (c .unions .clauses)) xs (masks ys) (c .unions .k-index) None (w .unions-test .taken)
-            (sym (w .loop-l .inv .1) ∙ row-from 64 old k ys (w .loop-l .l-index) None (w .loop-l-test .taken) (ap (λ C. offer 64 C old) (sym (w .union .ensures .value)) ∙ w .in-rest .ensures tt .value .0)) ]);
+            | else-unions-test w ↦ absurd (both-ways (c .unions .full) (c .unions .inv .0) (sym (w .full-is) ∙ c .if-full .taken))
+            | then-unions-test·then-loop-l-test·in-rest w ↦
+                let k = getD xs (c .unions .k-index) (record { bits = 0 }) .bits in
+                let old = clause-list (w .loop-l .clauses) in
+                sym (c .unions .inv .1)
+                ∙ unions-from 64 (clause-list (c .unions .clauses)) xs (masks ys) (c .unions .k-index) None (w .unions-test .taken)
+                (sym (w .loop-l .inv .1) ∙ row-from 64 old k ys (w .loop-l .l-index) None (w .loop-l-test .taken) (ap (λ C. offer 64 C old) (sym (w .union .ensures .value)) ∙ w .in-rest .ensures tt .value .0))
+          ]);
       means = tt;
     }
 

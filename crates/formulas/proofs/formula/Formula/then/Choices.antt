@@ -12,5 +12,5 @@ use Rattle.formulas.proofs.formula.Formula.then.Given as given
 abbrev pub Inv-loop-effects : given.InvT-loop-effects
 Inv-loop-effects l =
     (and-after 64 (view (l .table)) (formula-list (l .next)) (clause-list (l .clauses)) (drop (l .effects-index) (masks (l .effects-items)))
-      ≡ and-after 64 (view (l .table)) (formula-list (l .next)) [] (masks (l .effects-items)))
+    ≡ and-after 64 (view (l .table)) (formula-list (l .next)) [] (masks (l .effects-items)))
     × (1 ≤ l .effects-index → 1 ≤ length (clause-list (l .clauses)))

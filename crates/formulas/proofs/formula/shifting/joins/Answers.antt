@@ -29,12 +29,13 @@ loop-again c =
     let is = picked-is K (c .loop .rest .bits) i (c .loop .inv .0) h (c .in-Some .member) (c .in-Some .ensures tt .listed) in (
       picked-rest K (c .loop .rest .bits) i (c .loop .inv .0) h (c .without-first-rest .result .bits) (c .without-first-rest .ensures .listed),
       elim (c .match-join .came) [
-        in-Some-join w ↦
-        subst (λ x. bitOr (x .bits) (gathered (joins (view t) e (drop (i + 1) (members K)))) ≡ joined (view t) e K) (sym (w .joined-is))
-        (joins-yes t e K i (c .loop .joined .bits) h (c .loop .inv .1) (c .in-Some .member) (w .in-Some-join .join) (w .with-joined .result .bits) is (w .in-Some-join .ensures tt) (w .with-joined .ensures .value))
-      | in-rest-join w ↦
-        subst (λ x. bitOr (x .bits) (gathered (joins (view t) e (drop (i + 1) (members K)))) ≡ joined (view t) e K) (sym (w .joined-is))
-        (joins-no t e K i (c .loop .joined .bits) h (c .loop .inv .1) (c .in-Some .member) is (w .in-rest-join .ensures tt)) ],
+        | in-Some-join w ↦
+            subst (λ x. bitOr (x .bits) (gathered (joins (view t) e (drop (i + 1) (members K)))) ≡ joined (view t) e K) (sym (w .joined-is))
+            (joins-yes t e K i (c .loop .joined .bits) h (c .loop .inv .1) (c .in-Some .member) (w .in-Some-join .join) (w .with-joined .result .bits) is (w .in-Some-join .ensures tt) (w .with-joined .ensures .value))
+        | in-rest-join w ↦
+            subst (λ x. bitOr (x .bits) (gathered (joins (view t) e (drop (i + 1) (members K)))) ≡ joined (view t) e K) (sym (w .joined-is))
+            (joins-no t e K i (c .loop .joined .bits) h (c .loop .inv .1) (c .in-Some .member) is (w .in-rest-join .ensures tt))
+      ],
     )
 
 pub returns : need.returns
