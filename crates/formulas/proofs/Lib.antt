@@ -1,4 +1,6 @@
+pub mod Bodies
 pub mod Combining
+pub mod Equalities
 pub mod FirstOwners
 pub mod Forms
 pub mod Given

@@ -8,6 +8,7 @@ pub mod Masks
 pub mod RecordForms
 pub mod Records
 pub mod Refusals
+pub mod RoundViews
 pub mod Rounds
 pub mod Searches
 pub mod Steps

@@ -31,11 +31,15 @@ module _ (limit : ℕ) (t : Table) where
   shift-by None F = Some impossible
   shift-by (Some e) F = shift limit t e F
 
-  -- the formula of a list of symbols, from the last symbol to the first, where the procedures have the formulas L
+  -- a symbol in front of what has the formula F, where the procedures have the formulas L
+  abbrev pub in-front : List (List ℕ) → Symbol → List ℕ → Option (List ℕ)
+  in-front L (Command c) F = shift-by (table-command t c) F
+  in-front L (Procedure x) F = then limit t (formula-at L x) F
+
+  -- the formula of a list of symbols, from the last symbol to the first
   abbrev pub body-formula : List (List ℕ) → List Symbol → Option (List ℕ)
   body-formula L [] = Some neutral
-  body-formula L (Command c ∷ s) = bind (body-formula L s) (shift-by (table-command t c))
-  body-formula L (Procedure x ∷ s) = bind (body-formula L s) (then limit t (formula-at L x))
+  body-formula L (s ∷ ss) = bind (body-formula L ss) (in-front L s)
 
   abbrev pub mixed : Owner → List ℕ → List ℕ → Option (List ℕ)
   mixed Station F G = both limit F G
@@ -50,6 +54,11 @@ module _ (limit : ℕ) (t : Table) where
   abbrev pub combined : List (List ℕ) → Owner → List (List Symbol) → Option (List ℕ)
   combined L o [] = Some impossible
   combined L o (b ∷ bs) = bind (body-formula L b) (λ F. mixed-all L o F bs)
+
+  -- the same from between the bodies on, with what there is so far
+  abbrev pub combined-on : List (List ℕ) → Owner → Option (List ℕ) → List (List Symbol) → Option (List ℕ)
+  combined-on L o None bs = combined L o bs
+  combined-on L o (Some F) bs = mixed-all L o F bs
 
   abbrev pub next-owned : List (List ℕ) → Option Owner → List (List Symbol) → Option (List ℕ)
   next-owned L None bs = Some impossible

@@ -7,6 +7,8 @@ use crate::clauses::Clauses;
 mod operations;
 mod shifting;
 
+pub use crate::formula::operations::FormulaPartialEq;
+
 /// 1 to 64 clauses, none within another, in rising order. Each clause is a choice of the station, each
 /// effect in it one of the field.
 pub struct Formula {

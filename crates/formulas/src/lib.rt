@@ -4,4 +4,5 @@ pub mod fault;
 pub mod formula;
 pub mod procedure_set;
 pub mod record;
+pub mod round;
 pub mod symbol;

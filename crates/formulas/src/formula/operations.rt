@@ -1,5 +1,6 @@
 //! "And" and "or" of formulas, and the two simplest ones.
 ghost use mathlib.Core.Path.{_≡_};
+ghost use Rattle.std.specs.Orderings.{Decides};
 ghost use Rattle.std.specs.Results.{Cases as ByOk};
 ghost use Rattle.formulas.specs.Formulas.{both, either, impossible, neutral};
 ghost use Rattle.formulas.specs.FormulaViews.{formula-list, found, And, Or};
@@ -8,6 +9,7 @@ use crate::clauses::Clauses;
 use crate::clauses::Overflow;
 use crate::formula::Formula;
 use foundation::effect_set::EffectSet;
+use foundation::effect_set::EffectSetPartialEq;
 
 impl Formula {
     /// The formula that meets no set: its one clause has no members.
@@ -66,5 +68,13 @@ impl Formula {
         } else {
             Ok(Formula { clauses })
         }
+    }
+}
+
+pub impl PartialEq<Formula> for Formula as FormulaPartialEq {
+    ghost equals = { λ a b r. Decides r (formula-list a ≡ formula-list b) };
+
+    fn eq(&self, other: &Formula) -> bool {
+        self.clauses() == other.clauses()
     }
 }

@@ -1,0 +1,19 @@
+//! Rounds: a formula for each procedure.
+ghost use mathlib.Core.Path.{_≡_};
+ghost use lib.ListN.{length};
+use crate::formula::Formula;
+
+mod bodies;
+mod comparing;
+mod next;
+
+/// How many procedures have a number.
+pub(crate) const PROCEDURES: usize = 32;
+
+/// The formulas of all procedures, by number.
+pub struct Round {
+    formulas: [Formula; 32],
+    ghost whole: { length formulas ≡ 32 },
+}
+
+impl Copy for Round {}

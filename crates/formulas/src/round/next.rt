@@ -1,0 +1,1 @@
+//! The round after a round.
