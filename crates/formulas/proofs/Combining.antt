@@ -54,7 +54,7 @@ module _ (t : Table) (m : Monoid t) (limit : ℕ) (L : List (List ℕ)) where
   abbrev Meets-as : (ℕ → Bool) → List ℕ → Type 0
   Meets-as q R = (A : ℕ) → meets (has A) R ≡ q A
 
-  mixed-says : (o : Owner) (F G : List ℕ) (p q : ℕ → Bool) → Meets-as p F → Meets-as q G → Given (mixed limit t o F G) (Meets-as (λ A. with-front o (p A) (λ _. q A) ([] ∷ [])))
+  mixed-says : (o : Owner) (F G : List ℕ) (p q : ℕ → Bool) → Meets-as p F → Meets-as q G → Given (mixed limit o F G) (Meets-as (λ A. with-front o (p A) (λ _. q A) ([] ∷ [])))
   mixed-says Station F G p q f g = each (both limit F G) (λ A. offers-meet (has A) limit F G)
     where
       each : (o : Option (List ℕ)) → ((A : ℕ) → Given o (λ R. meets (has A) R ≡ (meets (has A) F && meets (has A) G))) → Given o (Meets-as (λ A. p A && (q A && true)))
@@ -77,8 +77,8 @@ module _ (t : Table) (m : Monoid t) (limit : ℕ) (L : List (List ℕ)) where
   mixed-all-says : (o : Owner) (F : List ℕ) (q : ℕ → Bool) (bs : List (List Symbol)) → Meets-as q F → Given (mixed-all limit t L o F bs) (Meets-as (λ A. with-front o (q A) (wins A) bs))
   mixed-all-says o F q [] f = λ A. f A ∙ front-none o (q A) (wins A)
   mixed-all-says o F q (b ∷ bs) f =
-      given-bind (body-formula limit t L b) (λ G. bind (mixed limit t o F G) (λ H. mixed-all limit t L o H bs)) (Meets-as (λ A. wins A b)) (Meets-as (λ A. with-front o (q A) (wins A) (b ∷ bs))) (body-says t m limit L b)
-      (λ G g. given-bind (mixed limit t o F G) (λ H. mixed-all limit t L o H bs) (Meets-as (λ A. with-front o (q A) (λ _. wins A b) ([] ∷ []))) (Meets-as (λ A. with-front o (q A) (wins A) (b ∷ bs))) (mixed-says o F G q (λ A. wins A b) f g)
+      given-bind (body-formula limit t L b) (λ G. bind (mixed limit o F G) (λ H. mixed-all limit t L o H bs)) (Meets-as (λ A. wins A b)) (Meets-as (λ A. with-front o (q A) (wins A) (b ∷ bs))) (body-says t m limit L b)
+      (λ G g. given-bind (mixed limit o F G) (λ H. mixed-all limit t L o H bs) (Meets-as (λ A. with-front o (q A) (λ _. wins A b) ([] ∷ []))) (Meets-as (λ A. with-front o (q A) (wins A) (b ∷ bs))) (mixed-says o F G q (λ A. wins A b) f g)
       (λ H h. given-weaker (mixed-all limit t L o H bs) (Meets-as (λ A. with-front o (with-front o (q A) (λ _. wins A b) ([] ∷ [])) (wins A) bs)) (Meets-as (λ A. with-front o (q A) (wins A) (b ∷ bs)))
       (mixed-all-says o H (λ A. with-front o (q A) (λ _. wins A b) ([] ∷ [])) bs h) (λ R r A. r A ∙ front-more o (q A) (wins A b) (wins A) bs b refl)))
 
@@ -179,15 +179,15 @@ module _ (t : Table) (m : Monoid t) (limit : ℕ) where
       go (Some e) F = shift-good e F
   body-good L (Procedure x ∷ s) = given-bind (body-formula limit t L s) (then limit t (formula-at L x)) (Good t) (Good t) (body-good L s) (λ F f. and-after-good F [] (formula-at L x) nil-good)
 
-  mixed-good : (o : Owner) (F G : List ℕ) → Good t F → Good t G → Given (mixed limit t o F G) (Good t)
+  mixed-good : (o : Owner) (F G : List ℕ) → Good t F → Good t G → Given (mixed limit o F G) (Good t)
   mixed-good Station F G f g = offers-good F G f (g .1)
   mixed-good Field F G f g = either-good F G (f .1) (g .1)
 
   mixed-all-good : (L : List (List ℕ)) (o : Owner) (F : List ℕ) (bs : List (List Symbol)) → Good t F → Given (mixed-all limit t L o F bs) (Good t)
   mixed-all-good L o F [] f = f
   mixed-all-good L o F (b ∷ bs) f =
-      given-bind (body-formula limit t L b) (λ G. bind (mixed limit t o F G) (λ H. mixed-all limit t L o H bs)) (Good t) (Good t) (body-good L b)
-      (λ G g. given-bind (mixed limit t o F G) (λ H. mixed-all limit t L o H bs) (Good t) (Good t) (mixed-good o F G f g) (λ H h. mixed-all-good L o H bs h))
+      given-bind (body-formula limit t L b) (λ G. bind (mixed limit o F G) (λ H. mixed-all limit t L o H bs)) (Good t) (Good t) (body-good L b)
+      (λ G g. given-bind (mixed limit o F G) (λ H. mixed-all limit t L o H bs) (Good t) (Good t) (mixed-good o F G f g) (λ H h. mixed-all-good L o H bs h))
 
   pub next-good : (rs : List Entry) (L : List (List ℕ)) (x : ℕ) → Given (next-formula limit t rs L x) (Good t)
   next-good rs L x = go (owner-of rs x) (bodies rs x)

@@ -1,5 +1,6 @@
 pub mod Bodies
 pub mod Combining
+pub mod CombiningOn
 pub mod Equalities
 pub mod FirstOwners
 pub mod Forms
@@ -8,6 +9,7 @@ pub mod InWords
 pub mod Least
 pub mod Meets
 pub mod Monoids
+pub mod Nexts
 pub mod Normals
 pub mod Offering
 pub mod Offers
@@ -17,7 +19,9 @@ pub mod Pushes
 pub mod Records
 pub mod Rounds
 pub mod Searches
+pub mod Settling
 pub mod Shifting
+pub mod SolvedInWords
 pub mod Trees
 pub mod Winning
 pub mod WordForms

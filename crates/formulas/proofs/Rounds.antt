@@ -14,18 +14,24 @@ use Rattle.std.proofs.shelf.Counted.{getD-map-counting, length-map-counting}
 use Rattle.std.proofs.shelf.Lists.{getD-past}
 use Rattle.std.proofs.shelf.Tests.{cases-lt}
 use Rattle.rules.specs.Tables.{Table}
+use Rattle.formulas.specs.declared.procedure_set.ProcedureSet.{ProcedureSet}
 use Rattle.formulas.specs.declared.symbol.Owner.{Owner}
 use Rattle.formulas.specs.Formulas.{impossible}
+use Rattle.formulas.specs.Records.{entries}
 use Rattle.formulas.specs.Rounds.{procedures, formula-at, next-owned, next-formula, with-first, each-formula, first-round, on-round, next-round, round}
 use Rattle.formulas.specs.Symbols.{Entry, bodies, owner-of}
 use Rattle.formulas.proofs.Combining.{Good, impossible-good, next-good}
 use Rattle.formulas.proofs.Given.{Given, given-some}
 use Rattle.formulas.proofs.Monoids.{Monoid}
-use Rattle.formulas.proofs.Records.{owner-belongs}
+use Rattle.formulas.proofs.Nexts.{procedures-are}
+use Rattle.formulas.proofs.Records.{owner-belongs, set-range}
 
 -- the records are of the procedures that there are
 abbrev pub Within : List Entry → Type 0
 Within rs = (r : Entry) → List·Memᴰ r rs → r .procedure < procedures
+
+pub set-within : (s : ProcedureSet) → Within (entries s)
+set-within s r m = omega (arith, procedures-are, set-range s r m .known)
 
 -- the formulas that were found one after the other
 pub record Found (f : ℕ → Option (List ℕ)) (a n : ℕ) (Fs : List (List ℕ)) : Type 0 where

@@ -11,6 +11,8 @@ pub mod Refusals
 pub mod RoundViews
 pub mod Rounds
 pub mod Searches
+pub mod Solutions
+pub mod Solving
 pub mod Steps
 pub mod Symbols
 pub mod Trees

@@ -25,6 +25,17 @@ procedures = 32
 abbrev pub formula-at : List (List ℕ) → ℕ → List ℕ
 formula-at L x = getD L x impossible
 
+module _ (limit : ℕ) where
+  -- two bodies of a procedure, combined as its owner chooses between them
+  abbrev pub mixed : Owner → List ℕ → List ℕ → Option (List ℕ)
+  mixed Station F G = both limit F G
+  mixed Field F G = either limit F G
+
+  -- the first body is combined with nothing
+  abbrev pub mixed-with : Owner → Option (List ℕ) → List ℕ → Option (List ℕ)
+  mixed-with o None G = Some G
+  mixed-with o (Some F) G = mixed o F G
+
 module _ (limit : ℕ) (t : Table) where
   -- shifted by the effect of a command; a command that the rule lacks leads nowhere
   abbrev pub shift-by : Option ℕ → List ℕ → Option (List ℕ)
@@ -41,14 +52,10 @@ module _ (limit : ℕ) (t : Table) where
   body-formula L [] = Some neutral
   body-formula L (s ∷ ss) = bind (body-formula L ss) (in-front L s)
 
-  abbrev pub mixed : Owner → List ℕ → List ℕ → Option (List ℕ)
-  mixed Station F G = both limit F G
-  mixed Field F G = either limit F G
-
   -- F combined with each body in order
   abbrev pub mixed-all : List (List ℕ) → Owner → List ℕ → List (List Symbol) → Option (List ℕ)
   mixed-all L o F [] = Some F
-  mixed-all L o F (b ∷ bs) = bind (body-formula L b) (λ G. bind (mixed o F G) (λ H. mixed-all L o H bs))
+  mixed-all L o F (b ∷ bs) = bind (body-formula L b) (λ G. bind (mixed limit o F G) (λ H. mixed-all L o H bs))
 
   -- the first body is combined with nothing
   abbrev pub combined : List (List ℕ) → Owner → List (List Symbol) → Option (List ℕ)

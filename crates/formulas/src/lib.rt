@@ -5,4 +5,5 @@ pub mod formula;
 pub mod procedure_set;
 pub mod record;
 pub mod round;
+pub mod solution;
 pub mod symbol;
