@@ -1,8 +1,9 @@
 -- The first settled round is the least solution of the equations, and decides the game.
-use mathlib.Core.Path.{_≡_, refl, sym, ap, _∙_, subst}
+use mathlib.Core.Path.{_≡_, refl, sym, ap, ap₂, _∙_, subst, fun-ext}
 use mathlib.Core.List.{List, [], _∷_, List·Memᴰ}
 use mathlib.Core.Bool.{Bool, true, false}
 use Prim.Native.Nat.{ℕ, suc, _^_, _<_}
+use native.Mathlib.Omega.{arith}
 use Rattle.std.specs.Orderings.{Decides}
 use Rattle.std.specs.declared.option.Option.{Option}
 use Rattle.std.specs.declared.option.Option.the-variants.{Some, None}
@@ -15,15 +16,17 @@ use Rattle.rules.specs.Tables.{Table}
 use Rattle.formulas.specs.declared.symbol.Owner.{Owner}
 use Rattle.formulas.specs.declared.symbol.Owner.the-variants.{Station, Field}
 use Rattle.formulas.specs.declared.symbol.Symbol.{Symbol}
-use Rattle.formulas.specs.declared.symbol.Symbol.the-variants.{Procedure}
-use Rattle.formulas.specs.Equations.{Wins-body, Solves, Least-solution, First-settled, Winning-by-trees, Meets-by-trees}
-use Rattle.formulas.specs.Formulas.{meets}
-use Rattle.formulas.specs.Rounds.{formula-at, body-formula, next-formula, next-round, round}
+use Rattle.formulas.specs.declared.symbol.Symbol.the-variants.{Command, Procedure}
+use Rattle.formulas.specs.Equations.{Wins-body, Solves, Least-solution, First-settled, Settled-lists, Won-by-trees, Meets-by-trees}
+use Rattle.formulas.specs.Formulas.{meets, then}
+use Rattle.formulas.specs.Rounds.{formula-at, in-front, body-formula, next-formula, next-round, round}
+use Rattle.formulas.specs.Steps.{bind}
 use Rattle.formulas.specs.Symbols.{Entry, Of, Belongs, Agree, bodies, owner-of}
 use Rattle.formulas.specs.Winning.{Assignment, assigned, winning}
 use Rattle.formulas.proofs.Combining.{by-owner, next-says}
 use Rattle.formulas.proofs.Given.{given-some}
 use Rattle.formulas.proofs.Monoids.{Monoid}
+use Rattle.formulas.proofs.Nexts.{procedures-are}
 use Rattle.formulas.proofs.Records.{body-of, of-body, owner-belongs, owner-none, belongs-owner}
 use Rattle.formulas.proofs.Rounds.{Within, next-at, round-follows, round-good}
 use Rattle.formulas.proofs.Trees.{Fixed, tree-wins, wins-tree}
@@ -100,8 +103,8 @@ module _ (rs : List Entry) (agree : Agree rs) (t : Table) (m : Monoid t) where
       numbers = λ x. round-good limit rs within t m k L (settled .is) x .1;
     }
 
-    pub winning-trees : Winning-by-trees rs t L
-    winning-trees A e s small start = (
+    pub winning-trees : (A : ℕ) (s : List Symbol) → A < 2 ^ t .count → Won-by-trees rs t A s (winning t (assigned (formula-at L)) A s)
+    winning-trees A s small e start = (
       wins-tree rs agree t m limit within k L (settled .is) A e small start s,
       tree-wins rs agree t m (assigned (formula-at L)) formulas-fixed A e small start,
     )
@@ -109,5 +112,27 @@ module _ (rs : List Entry) (agree : Agree rs) (t : Table) (m : Monoid t) where
     pub formula-trees : (s : List Symbol) (F : List ℕ) → body-formula limit t L s ≡ Some F → Meets-by-trees rs t s F
     formula-trees s F e A small =
         let same : meets (has A) F ≡ has (winning t (assigned (formula-at L)) A s) 0 = given-some (body-formula limit t L s) (λ R. (A : ℕ) → meets (has A) R ≡ has (winning t (assigned (formula-at L)) A s) 0) F (body-says t m limit L s) e A in
-        let d = winning-trees A 0 s small (m .some) in
+        let d = winning-trees A s small 0 (m .some) in
         (λ h. d .0 (sym same ∙ h), λ v. same ∙ d .1 v)
+
+-- ---- for lists of clauses that are settled formulas
+
+module _ (t : Table) (m : Monoid t) (rs : List Entry) (lists : ℕ → List ℕ) (all : Settled-lists rs t lists) where
+  within : Within rs
+  within r i = omega (arith, procedures-are, all .known r i)
+
+  pub lists-trees : (A : ℕ) (s : List Symbol) → A < 2 ^ t .count → Won-by-trees rs t A s (winning t (assigned lists) A s)
+  lists-trees A s small =
+      subst (λ f. Won-by-trees rs t A s (winning t (assigned f) A s)) (sym (fun-ext (all .are))) (winning-trees rs (all .agree) t m 64 within (all .number) (all .formulas) (all .settled) A s small)
+
+  pub form-trees : (L : List (List ℕ)) → ((x : ℕ) → formula-at L x ≡ lists x) → (s : List Symbol) (F : List ℕ) → body-formula 64 t L s ≡ Some F → Meets-by-trees rs t s F
+  form-trees L are s F e =
+      formula-trees rs (all .agree) t m 64 within (all .number) (all .formulas) (all .settled) s F (sym (body-same L (all .formulas) (λ x. are x ∙ all .are x) s) ∙ e)
+    where
+      front-same : (L M : List (List ℕ)) → ((x : ℕ) → formula-at L x ≡ formula-at M x) → (y : Symbol) → in-front 64 t L y ≡ in-front 64 t M y
+      front-same L M h (Command c) = refl
+      front-same L M h (Procedure x) = ap (λ F. then 64 t F) (h x)
+
+      body-same : (L M : List (List ℕ)) → ((x : ℕ) → formula-at L x ≡ formula-at M x) → (s : List Symbol) → body-formula 64 t L s ≡ body-formula 64 t M s
+      body-same L M h [] = refl
+      body-same L M h (y ∷ s) = ap₂ bind (body-same L M h s) (front-same L M h y)

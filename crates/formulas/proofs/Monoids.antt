@@ -1,7 +1,7 @@
 -- The joins of a table are those of a monoid on its effect numbers.
 use mathlib.Core.Path.{_≡_, refl, sym, ap, ap₂, _∙_, subst}
 use mathlib.Core.List.{List, [], _∷_, _++_, append-assoc, append-nil}
-use mathlib.Core.Logic.{∥∥₁-elim}
+use mathlib.Core.Logic.{_⊎_, inl, inr, ∥∥₁-elim}
 use Prim.Native.Nat.{ℕ, _<_, _≤_}
 use native.Mathlib.Bridge.{le-prop}
 use native.Mathlib.Nat.{ℕ-set}
@@ -11,6 +11,7 @@ use Rattle.std.specs.declared.option.Option.the-variants.{Some, None}
 use Rattle.std.specs.shelf.Lists.{All}
 use Rattle.std.proofs.shelf.Elements.{all-append}
 use Rattle.std.proofs.shelf.Maps.{nth-getD, nth-past}
+use Rattle.std.proofs.shelf.Tests.{cases-lt}
 use Rattle.rules.specs.declared.table.EffectTable.{EffectTable}
 use Rattle.rules.specs.Behaviours.{Behaviour, LawfulBehaviour}
 use Rattle.rules.specs.Lookups.{table-command}
@@ -85,3 +86,11 @@ module _ (t : Table) (m : Monoid t) (c : ℕ) where
 
   pub command-lacking : t .commands ≤ c → table-command t c ≡ None
   command-lacking h = nth-past (t .numbers) c (omega (arith, m .numbered))
+
+  -- what is found is the number of an effect
+  pub command-below : (e : ℕ) → Some e ≡ table-command t c → e < t .count
+  command-below e is = go (cases-lt c (t .commands))
+    where
+      go : (c < t .commands) ⊎ (t .commands ≤ c) → e < t .count
+      go (inl h) = let k = command-known h in let z : e ≡ number-of t c = cc in omega (arith, m .command c h)
+      go (inr h) = let k = command-lacking h in let z : _≡_ {A = ℕ} 0 1 = cc in absurd (omega arith)

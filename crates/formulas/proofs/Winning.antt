@@ -3,12 +3,14 @@ use mathlib.Core.Path.{_≡_, refl, sym, ap, ap₂, _∙_, fun-ext}
 use mathlib.Core.List.{List, [], _∷_, _++_}
 use mathlib.Core.Bool.{Bool, true, false, _&&_, and-true, and-false}
 use mathlib.Core.Logic.{_⊎_, inl, inr}
-use Prim.Native.Nat.{ℕ, _^_, _<_, _≤_}
+use Prim.Native.Nat.{ℕ, _+_, _-_, _^_, _<_, _≤_}
 use native.Mathlib.Omega.{arith}
 use lib.Dec.{ltb}
+use lib.ListN.{length, getD, drop}
 use Rattle.std.specs.declared.option.Option.{Option}
 use Rattle.std.specs.declared.option.Option.the-variants.{Some, None}
 use Rattle.std.proofs.shelf.Bits.{pow-pos}
+use Rattle.std.proofs.shelf.Lists.{drop-more, drop-all}
 use Rattle.std.proofs.shelf.Tests.{lt-ltb, le-ltb, cases-lt}
 use Rattle.foundation.specs.Bits.{has, number}
 use Rattle.foundation.specs.Sets.{hits}
@@ -21,7 +23,7 @@ use Rattle.formulas.specs.declared.symbol.Symbol.the-variants.{Command, Proced
 use Rattle.formulas.specs.Steps.{bind}
 use Rattle.formulas.specs.Formulas.{meets, impossible, leading, going-on, shift, then}
 use Rattle.formulas.specs.Rounds.{formula-at, shift-by, body-formula}
-use Rattle.formulas.specs.Winning.{Assignment, assigned, effects-where, after-effect, before-command, before-procedure, winning}
+use Rattle.formulas.specs.Winning.{Assignment, assigned, effects-where, after-effect, before-command, before-procedure, before-symbol, winning}
 use Rattle.formulas.proofs.Given.{Given, given-bind, given-weaker}
 use Rattle.formulas.proofs.Meets.{impossible-meets, shift-meets, then-meets}
 use Rattle.formulas.proofs.Monoids.{Monoid, command-known, command-lacking}
@@ -148,3 +150,14 @@ module _ (t : Table) (m : Monoid t) where
     body-says [] = λ A. ap (λ b. b && true) (hits-one (has A) 0) ∙ and-true (has A 0)
     body-says (Command c ∷ s) = given-bind (body-formula limit t L s) (shift-by limit t (table-command t c)) (Says s) (Says (Command c ∷ s)) (body-says s) (by-command c s)
     body-says (Procedure x ∷ s) = given-bind (body-formula limit t L s) (then limit t (formula-at L x)) (Says s) (Says (Procedure x ∷ s)) (body-says s) (by-procedure x s)
+
+-- ---- worked out from the end
+
+module _ (t : Table) (φ : Assignment) (A : ℕ) where
+  pub winning-more : (s : List Symbol) (i : ℕ) (d : Symbol) (W : ℕ) → 0 < i → i ≤ length s → W ≡ winning t φ A (drop i s) → before-symbol t φ (getD s (i - 1) d) W ≡ winning t φ A (drop (i - 1) s)
+  winning-more s i d W p h e =
+      let n : i - 1 + 1 ≡ i = omega arith in
+      ap (before-symbol t φ (getD s (i - 1) d)) e ∙ sym (ap (winning t φ A) (drop-more s (i - 1) d (omega arith) ∙ ap (λ k. getD s (i - 1) d ∷ drop k s) n))
+
+  pub winning-end : (s : List Symbol) → A ≡ winning t φ A (drop (length s) s)
+  winning-end s = sym (ap (winning t φ A) (drop-all (length s) s (omega arith)))

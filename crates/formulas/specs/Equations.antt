@@ -1,7 +1,7 @@
 -- The equations, and their least solution.
 use mathlib.Core.Path.{_≡_}
 use mathlib.Core.Bool.{true, false}
-use mathlib.Core.List.{List}
+use mathlib.Core.List.{List, List·Memᴰ}
 use Prim.Native.Nat.{ℕ, suc, _^_, _<_}
 use Rattle.std.specs.Orderings.{Decides}
 use Rattle.std.specs.declared.result.Result.the-variants.{Ok, Err}
@@ -11,7 +11,7 @@ use Rattle.formulas.specs.declared.symbol.Owner.the-variants.{Station, Field}
 use Rattle.formulas.specs.declared.symbol.Symbol.{Symbol}
 use Rattle.formulas.specs.Formulas.{meets, Normal, Below-width}
 use Rattle.formulas.specs.Rounds.{formula-at, round}
-use Rattle.formulas.specs.Symbols.{Entry, Of, Belongs}
+use Rattle.formulas.specs.Symbols.{Entry, Of, Belongs, Agree}
 use Rattle.formulas.specs.Trees.{Tree, Leads-into}
 use Rattle.formulas.specs.Winning.{Assignment, assigned, winning}
 
@@ -41,10 +41,19 @@ module _ (rs : List Entry) (t : Table) where
     pub equal : round limit rs t before ≡ Ok L
     pub earlier : (j : ℕ) → j < before → round limit rs t (suc j) ≡ round limit rs t j → ⊥
 
-  -- the winning sets by the formulas L are where the field has a finite tree of choices: for every set of effects, list of symbols, and effect before it
-  abbrev pub Winning-by-trees : List (List ℕ) → Type 0
-  Winning-by-trees L = (A e : ℕ) (s : List Symbol) → A < 2 ^ t .count → e < t .count → Decides (has (winning t (assigned (formula-at L)) A s) e) (Tree rs (Leads-into t A e) s)
-
   -- F is a formula of the list s: it meets a set of effects exactly where the field has a tree under that set
   abbrev pub Meets-by-trees : List Symbol → List ℕ → Type 0
   Meets-by-trees s F = (A : ℕ) → A < 2 ^ t .count → Decides (meets (has A) F) (Tree rs (Leads-into t A 0) s)
+
+-- the lists of clauses are the settled formulas of the records rs
+pub record Settled-lists (rs : List Entry) (t : Table) (lists : ℕ → List ℕ) : Type 0 where
+  pub agree : Agree rs
+  pub known : (r : Entry) → List·Memᴰ r rs → r .procedure < 32
+  pub number : ℕ
+  pub formulas : List (List ℕ)
+  pub are : (x : ℕ) → lists x ≡ formula-at formulas x
+  pub settled : First-settled rs t 64 number formulas
+
+-- W has exactly the effects after which the field has a tree on s, where A is forbidden
+abbrev pub Won-by-trees : List Entry → Table → ℕ → List Symbol → ℕ → Type 0
+Won-by-trees rs t A s W = (e : ℕ) → e < t .count → Decides (has W e) (Tree rs (Leads-into t A e) s)

@@ -37,8 +37,12 @@ module _ (t : Table) where
   abbrev pub before-procedure : (ℕ → Bool) → ℕ → ℕ
   before-procedure wins A = effects-where (λ e. wins (after-effect A e))
 
+  -- in front of a set, by one symbol
+  abbrev pub before-symbol : Assignment → Symbol → ℕ → ℕ
+  before-symbol φ (Command c) A = before-command (table-command t c) A
+  before-symbol φ (Procedure x) A = before-procedure (φ x) A
+
   -- the winning set of a list
   abbrev pub winning : Assignment → ℕ → List Symbol → ℕ
   winning φ A [] = A
-  winning φ A (Command c ∷ s) = before-command (table-command t c) (winning φ A s)
-  winning φ A (Procedure x ∷ s) = before-procedure (φ x) (winning φ A s)
+  winning φ A (s ∷ ss) = before-symbol φ s (winning φ A ss)

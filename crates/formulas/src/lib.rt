@@ -7,3 +7,4 @@ pub mod record;
 pub mod round;
 pub mod solution;
 pub mod symbol;
+pub mod winning_set;
