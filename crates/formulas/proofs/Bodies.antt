@@ -19,7 +19,7 @@ module _ (limit : ℕ) (t : Table) (L : List (List ℕ)) where
 
   -- one symbol more in front
   pub body-more : (s : List Symbol) (i : ℕ) (d : Symbol) (F : List ℕ) (o : Option (List ℕ)) → 0 < i → i ≤ length s → body-formula limit t L (drop i s) ≡ Some F → in-front limit t L (getD s (i - 1) d) F ≡ o
-    → body-formula limit t L (drop (i - 1) s) ≡ o
+      → body-formula limit t L (drop (i - 1) s) ≡ o
   body-more s i d F o p h e f =
       let n : i - 1 + 1 ≡ i = omega arith in
       ap (body-formula limit t L) (drop-more s (i - 1) d (omega arith) ∙ ap (λ k. getD s (i - 1) d ∷ drop k s) n)

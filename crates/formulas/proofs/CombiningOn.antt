@@ -52,7 +52,7 @@ module _ (limit : ℕ) (t : Table) (L : List (List ℕ)) (o : Owner) where
       on-none e = here ∙ ap (λ x. bind x (λ G. bind (mixed-with limit o so-far G) (λ H. mixed-all limit t L o H (bodies (drop (i + 1) rs) p)))) e
 
       pub on-mixed : (G : List ℕ) (x : Option (List ℕ)) → body-formula limit t L (r .body) ≡ Some G → mixed-with limit o so-far G ≡ x
-        → combined-on limit t L o so-far (bodies (drop i rs) p) ≡ bind x (λ H. mixed-all limit t L o H (bodies (drop (i + 1) rs) p))
+          → combined-on limit t L o so-far (bodies (drop i rs) p) ≡ bind x (λ H. mixed-all limit t L o H (bodies (drop (i + 1) rs) p))
       on-mixed G x e f =
           here ∙ ap (λ x. bind x (λ G. bind (mixed-with limit o so-far G) (λ H. mixed-all limit t L o H (bodies (drop (i + 1) rs) p)))) e
           ∙ ap (λ x. bind x (λ H. mixed-all limit t L o H (bodies (drop (i + 1) rs) p))) f

@@ -7,18 +7,23 @@ use native.Mathlib.Omega.{arith}
 use Rattle.std.specs.Orderings.{Decides}
 use Rattle.std.specs.declared.option.Option.{Option}
 use Rattle.std.specs.declared.option.Option.the-variants.{Some, None}
-use Rattle.std.specs.declared.result.Result.the-variants.{Ok}
+use Rattle.std.specs.Results.{Cases}
+use Rattle.std.specs.declared.result.Result.{Result}
+use Rattle.std.specs.declared.result.Result.the-variants.{Ok, Err}
 use Rattle.foundation.specs.Bits.{has}
 use Rattle.foundation.specs.Tests.{any, all}
 use Rattle.foundation.specs.laws.Bits.{same-tests}
 use Rattle.foundation.specs.laws.Tests.{any-in, in-any, all-in, in-all}
 use Rattle.rules.specs.Tables.{Table}
+use Rattle.formulas.specs.declared.clauses.Overflow.{Overflow}
+use Rattle.formulas.specs.declared.formula.Formula.{Formula}
 use Rattle.formulas.specs.declared.symbol.Owner.{Owner}
 use Rattle.formulas.specs.declared.symbol.Owner.the-variants.{Station, Field}
 use Rattle.formulas.specs.declared.symbol.Symbol.{Symbol}
 use Rattle.formulas.specs.declared.symbol.Symbol.the-variants.{Command, Procedure}
 use Rattle.formulas.specs.Equations.{Wins-body, Solves, Least-solution, First-settled, Settled-lists, Won-by-trees, Meets-by-trees}
 use Rattle.formulas.specs.Formulas.{meets, then}
+use Rattle.formulas.specs.FormulaViews.{formula-list, found}
 use Rattle.formulas.specs.Rounds.{formula-at, in-front, body-formula, next-formula, next-round, round}
 use Rattle.formulas.specs.Steps.{bind}
 use Rattle.formulas.specs.Symbols.{Entry, Of, Belongs, Agree, bodies, owner-of}
@@ -136,3 +141,8 @@ module _ (t : Table) (m : Monoid t) (rs : List Entry) (lists : ℕ → List ℕ)
       body-same : (L M : List (List ℕ)) → ((x : ℕ) → formula-at L x ≡ formula-at M x) → (s : List Symbol) → body-formula 64 t L s ≡ body-formula 64 t M s
       body-same L M h [] = refl
       body-same L M h (y ∷ s) = ap₂ bind (body-same L M h s) (front-same L M h y)
+
+  -- the code's answer for a form
+  pub form-answer : (L : List (List ℕ)) → ((x : ℕ) → formula-at L x ≡ lists x) → (s : List Symbol) (r : Result Formula Overflow) → found r ≡ body-formula 64 t L s → Cases r (λ f. Meets-by-trees rs t s (formula-list f)) (λ _. Unit {0})
+  form-answer L are s (Ok f) e = form-trees L are s (formula-list f) (sym e)
+  form-answer L are s (Err x) e = tt

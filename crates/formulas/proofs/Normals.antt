@@ -21,6 +21,7 @@ use Rattle.foundation.specs.laws.Bits.{has-number, has-above, has-ext, number-l
 use Rattle.foundation.specs.laws.Members.{hits-decides}
 use Rattle.foundation.specs.laws.Sets.{within-decides}
 use Rattle.foundation.specs.laws.Tests.{any-in, in-any, not-all-in, in-not-all}
+use Rattle.formulas.specs.Clauses.{Smallest-of}
 use Rattle.formulas.specs.Formulas.{meets, Normal, none-within, Below-width, outside, placed, offer, offers}
 use Rattle.formulas.proofs.Given.{Given, given-bind, given-weaker}
 
@@ -191,6 +192,76 @@ nil-normal = record { rising = ordered-climbs [] tt; apart = λ K L m k s. elim 
 
 pub one-normal : (C : ℕ) → Normal (C ∷ [])
 one-normal C = record { rising = ordered-climbs (C ∷ []) (tt, tt); apart = λ K L m k s. List·Memᴰ·eq-of-singleton m ∙ sym (List·Memᴰ·eq-of-singleton k) }
+
+-- ---- what is held are the smallest clauses
+
+in-outside : (C : ℕ) (F : List ℕ) (K : ℕ) → List·Memᴰ K F → within C K ≡ false → List·Memᴰ K (outside C F)
+in-outside C [] K m n = elim m [ ]
+in-outside C (L ∷ F) K m n = go (within C L) refl m (λ k. in-outside C F K k n)
+  where
+    go : (b : Bool) → within C L ≡ b → List·Memᴰ K (L ∷ F) → (List·Memᴰ K F → List·Memᴰ K (outside C F)) → List·Memᴰ K (cond (not b) (L ∷ outside C F) (outside C F))
+    go true e (List·Memᴰ·head q) ih = absurd (both-ways (within C K) n (ap (within C) q ∙ e))
+    go true e (List·Memᴰ·tail k) ih = ih k
+    go false e (List·Memᴰ·head q) ih = List·Memᴰ·head q
+    go false e (List·Memᴰ·tail k) ih = List·Memᴰ·tail (ih k)
+
+in-placed : (C : ℕ) (F : List ℕ) (K : ℕ) → (K ≡ C) ⊎ List·Memᴰ K F → List·Memᴰ K (placed C F)
+in-placed C [] K (inl e) = List·Memᴰ·head e
+in-placed C [] K (inr m) = elim m [ ]
+in-placed C (L ∷ F) K o = go (ltb C L) o (in-placed C F K)
+  where
+    go : (b : Bool) → (K ≡ C) ⊎ List·Memᴰ K (L ∷ F) → ((K ≡ C) ⊎ List·Memᴰ K F → List·Memᴰ K (placed C F)) → List·Memᴰ K (cond b (C ∷ L ∷ F) (L ∷ placed C F))
+    go true (inl e) ih = List·Memᴰ·head e
+    go true (inr m) ih = List·Memᴰ·tail m
+    go false (inl e) ih = List·Memᴰ·tail (ih (inl e))
+    go false (inr (List·Memᴰ·head q)) ih = List·Memᴰ·head q
+    go false (inr (List·Memᴰ·tail m)) ih = List·Memᴰ·tail (ih (inr m))
+
+pub held-smallest : (C : ℕ) (F : List ℕ) → Normal F → any (λ K. within K C) F ≡ true → Smallest-of F C F
+held-smallest C F n h K = (
+  λ m. (inl m, λ L o e. least m L o e),
+  λ p. back (p .0) (p .1),
+)
+  where
+    w : (L : ℕ) × List·Memᴰ L F × (within L C ≡ true)
+    w = any-in (λ K. within K C) F h
+
+    least : List·Memᴰ K F → (L : ℕ) → List·Memᴰ L F ⊎ (L ≡ C) → within L K ≡ true → L ≡ K
+    least m L (inl l) e = n .apart L K l m e
+    least m L (inr q) e =
+        let ck : within C K ≡ true = ap (λ x. within x K) (sym q) ∙ e in
+        let wk : w .0 ≡ K = n .apart (w .0) K (w .1) m (within-trans (w .0) C K (w .2) ck) in
+        q ∙ within-antisym C K ck (ap (λ x. within x C) (sym wk) ∙ w .2)
+
+    back : List·Memᴰ K F ⊎ (K ≡ C) → ((L : ℕ) → List·Memᴰ L F ⊎ (L ≡ C) → within L K ≡ true → L ≡ K) → List·Memᴰ K F
+    back (inl m) s = m
+    back (inr q) s = Memᴰ·cast (sym (s (w .0) (inl (w .1)) (ap (within (w .0)) q ∙ w .2))) (w .1)
+
+pub entered-smallest : (C : ℕ) (F : List ℕ) → Normal F → any (λ K. within K C) F ≡ false → Smallest-of F C (placed C (outside C F))
+entered-smallest C F n new K = (
+  λ m. forth (placed-in C (outside C F) K m),
+  λ p. back (p .0) (p .1) (cases-bool (within C K)),
+)
+  where
+    none-in : (L : ℕ) → List·Memᴰ L F → within L C ≡ true → ⊥
+    none-in L m s = both-ways (any (λ K. within K C) F) new (in-any (λ K. within K C) m s)
+
+    forth : (K ≡ C) ⊎ List·Memᴰ K (outside C F) → (List·Memᴰ K F ⊎ (K ≡ C)) × ((L : ℕ) → List·Memᴰ L F ⊎ (L ≡ C) → within L K ≡ true → L ≡ K)
+    forth (inl q) = (inr q, λ L o e. least L o e)
+      where
+        least : (L : ℕ) → List·Memᴰ L F ⊎ (L ≡ C) → within L K ≡ true → L ≡ K
+        least L (inl l) e = absurd (none-in L l (ap (within L) (sym q) ∙ e))
+        least L (inr r) e = r ∙ sym q
+    forth (inr m) = let o = outside-in C F K m in (inl (o .0), λ L p e. least o L p e)
+      where
+        least : List·Memᴰ K F × (within C K ≡ false) → (L : ℕ) → List·Memᴰ L F ⊎ (L ≡ C) → within L K ≡ true → L ≡ K
+        least o L (inl l) e = n .apart L K l (o .0) e
+        least o L (inr r) e = absurd (both-ways (within C K) (o .1) (ap (λ x. within x K) (sym r) ∙ e))
+
+    back : List·Memᴰ K F ⊎ (K ≡ C) → ((L : ℕ) → List·Memᴰ L F ⊎ (L ≡ C) → within L K ≡ true → L ≡ K) → (within C K ≡ true) ⊎ (within C K ≡ false) → List·Memᴰ K (placed C (outside C F))
+    back o s (inl e) = in-placed C (outside C F) K (inl (sym (s C (inr refl) e)))
+    back (inl m) s (inr e) = in-placed C (outside C F) K (inr (in-outside C F K m e))
+    back (inr q) s (inr e) = in-placed C (outside C F) K (inl q)
 
 -- ---- the same sets met, the same formula
 

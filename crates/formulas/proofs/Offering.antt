@@ -20,12 +20,12 @@ use Rattle.foundation.specs.Bounds.{items}
 use Rattle.foundation.specs.Sets.{within, hits}
 use Rattle.foundation.specs.Tests.{any}
 use Rattle.foundation.specs.laws.Bounds.{length-items}
-use Rattle.formulas.specs.Clauses.{entering, Stands, And-also}
+use Rattle.formulas.specs.Clauses.{entering, Stands, And-also, Smallest-of}
 use Rattle.formulas.specs.Formulas.{meets, Normal, outside, placed, offer}
 use Rattle.formulas.specs.Masks.{mask, masks, held}
 use Rattle.formulas.proofs.Given.{given-some}
 use Rattle.formulas.proofs.Meets.{offer-meets}
-use Rattle.formulas.proofs.Normals.{Ordered, within-le, within-self, entered-normal}
+use Rattle.formulas.proofs.Normals.{Ordered, within-le, within-self, entered-normal, entered-smallest}
 
 -- ---- the search
 
@@ -227,6 +227,9 @@ module _ (C : ℕ) (F : List ℕ) where
         cond-false (any (λ K. within K C) F) (Some F) (cond (ltb (length (outside C F)) 64) (Some (placed C (outside C F))) None) (s .new)
         ∙ cond-true (ltb (length (outside C F)) 64) (Some (placed C (outside C F))) None (lt-ltb (length (outside C F)) 64 (omega (arith, outside-long, ap length e, held-few b)))
         ∙ ap Some (s .is ∙ sym e)
+
+    pub entered-least : Normal F → (b : Bounded EffectSet 64) → held b ≡ entering C F i → Smallest-of F C (held b)
+    entered-least n b e = subst (Smallest-of F C) (s .is ∙ sym e) (entered-smallest C F n (s .new))
 
     -- the new list is normal too
     pub entered-form : Normal F → (b : Bounded EffectSet 64) → held b ≡ entering C F i → Normal (held b)

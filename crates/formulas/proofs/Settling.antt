@@ -33,9 +33,10 @@ same-decides [] [] = (λ e. refl, λ e. refl)
 same-decides [] (G ∷ M) = (λ e. absurd (false≢true e), λ e. let z : _≡_ {A = ℕ} 0 1 = cc in absurd (omega arith))
 same-decides (F ∷ L) [] = (λ e. absurd (false≢true e), λ e. let z : _≡_ {A = ℕ} 0 1 = cc in absurd (omega arith))
 same-decides (F ∷ L) (G ∷ M) =
-    let d = same-decides L M in
-    (λ e. let p = and-parts (sameBytes F G) (same-rounds L M) e in ap₂ _∷_ (sameBytes-decides F G .0 (p .0)) (d .0 (p .1)),
-     λ e. let x : F ≡ G = cc in let y : L ≡ M = cc in and-from (sameBytes F G) (same-rounds L M) (sameBytes-decides F G .1 x) (d .1 y))
+    let d = same-decides L M in (
+      λ e. let p = and-parts (sameBytes F G) (same-rounds L M) e in ap₂ _∷_ (sameBytes-decides F G .0 (p .0)) (d .0 (p .1)),
+      λ e. let x : F ≡ G = cc in let y : L ≡ M = cc in and-from (sameBytes F G) (same-rounds L M) (sameBytes-decides F G .1 x) (d .1 y),
+    )
 
 pub told-rounds : (L M : List (List ℕ)) (r : Bool) → Decides r (L ≡ M) → same-rounds L M ≡ r
 told-rounds L M r d = same-tests (same-rounds L M) r (λ e. d .1 (same-decides L M .0 e)) (λ e. same-decides L M .1 (d .0 e))

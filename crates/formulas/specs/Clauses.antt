@@ -1,7 +1,8 @@
 -- Clauses that the code holds, by their numbers, and how an offer comes out.
 use mathlib.Core.Path.{_≡_}
 use mathlib.Core.Bool.{Bool, true, false, _&&_}
-use mathlib.Core.List.{List, _∷_, _++_}
+use mathlib.Core.List.{List, _∷_, _++_, List·Memᴰ}
+use mathlib.Core.Logic.{_↔_, _⊎_}
 use Prim.Native.Nat.{ℕ, _≤_}
 use lib.ListN.{length, take, drop}
 use Rattle.std.specs.declared.option.Option.the-variants.{Some, None}
@@ -47,3 +48,7 @@ Offered-all F Cs G (Err e) = offers 64 F Cs ≡ None
 -- G meets the sets that F meets and in which C has a member
 abbrev pub And-also : List ℕ → ℕ → List ℕ → Type 0
 And-also F C G = (A : ℕ → Bool) → meets A G ≡ (meets A F && hits A C)
+
+-- G has exactly the smallest of C and the clauses of F: those within which no other of them lies
+abbrev pub Smallest-of : List ℕ → ℕ → List ℕ → Type 0
+Smallest-of F C G = (K : ℕ) → List·Memᴰ K G ↔ ((List·Memᴰ K F ⊎ (K ≡ C)) × ((L : ℕ) → List·Memᴰ L F ⊎ (L ≡ C) → within L K ≡ true → L ≡ K))

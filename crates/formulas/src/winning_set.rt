@@ -81,7 +81,12 @@ fn before(table: &EffectTable, k: EffectNumber, set: EffectSet) -> EffectSet
 }
 
 /// The effects after which the field wins a procedure and comes into the set.
-fn winning_before<L: ClauseLists>(table: &EffectTable, lists: &L, p: Procedure, set: EffectSet) -> EffectSet
+fn winning_before<L: ClauseLists>(
+    table: &EffectTable,
+    lists: &L,
+    p: Procedure,
+    set: EffectSet,
+) -> EffectSet
     ensures { λ r. ⌜ r .bits ≡ before-procedure (view (now (table .entry))) (assigned (L·ClauseLists .lists (now (lists .entry))) p) (set .bits) ⌝ }
 {
     let mut winning = EffectSet::empty();
@@ -94,7 +99,12 @@ fn winning_before<L: ClauseLists>(table: &EffectTable, lists: &L, p: Procedure, 
     winning
 }
 
-fn before_symbol<L: ClauseLists>(table: &EffectTable, lists: &L, symbol: Symbol, set: EffectSet) -> EffectSet
+fn before_symbol<L: ClauseLists>(
+    table: &EffectTable,
+    lists: &L,
+    symbol: Symbol,
+    set: EffectSet,
+) -> EffectSet
     ensures { λ r. ⌜ r .bits ≡ before-symbol (view (now (table .entry))) (assigned (L·ClauseLists .lists (now (lists .entry)))) symbol (set .bits) ⌝ }
 {
     match symbol {
@@ -107,7 +117,12 @@ fn before_symbol<L: ClauseLists>(table: &EffectTable, lists: &L, symbol: Symbol,
 }
 
 /// The effects after which the field wins the list, where the set `target` is forbidden.
-pub fn winning_set<L: ClauseLists>(table: &EffectTable, lists: &L, target: EffectSet, list: &[Symbol]) -> EffectSet
+pub fn winning_set<L: ClauseLists>(
+    table: &EffectTable,
+    lists: &L,
+    target: EffectSet,
+    list: &[Symbol],
+) -> EffectSet
     ensures value { λ r. ⌜ r .bits ≡ winning (view (now (table .entry))) (assigned (L·ClauseLists .lists (now (lists .entry)))) (target .bits) (now (list .entry)) ⌝ }
     ensures trees { λ r. ⌜ ((rs : List Entry) → Settled-lists rs (view (now (table .entry))) (L·ClauseLists .lists (now (lists .entry))) → target .bits < 2 ^ view (now (table .entry)) .count → Won-by-trees rs (view (now (table .entry))) (target .bits) (now (list .entry)) (r .bits)) ⌝ }
 {

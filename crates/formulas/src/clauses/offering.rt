@@ -8,7 +8,7 @@ ghost use lib.ListN.{length};
 ghost use Rattle.std.specs.Options.{Cases as BySome};
 ghost use Rattle.std.specs.Results.{Cases as ByOk};
 ghost use Rattle.foundation.specs.Bounds.{items};
-ghost use Rattle.formulas.specs.Clauses.{clause-list, Spots, entering, Offered, And-also, Offered-all};
+ghost use Rattle.formulas.specs.Clauses.{clause-list, Spots, entering, Offered, And-also, Smallest-of, Offered-all};
 ghost use Rattle.formulas.specs.Formulas.{outside};
 ghost use Rattle.formulas.specs.Masks.{masks, held};
 use crate::clauses::Clauses;
@@ -90,6 +90,7 @@ impl Clauses {
     pub fn offer(&mut self, c: EffectSet) -> Result<(), Overflow>
         ensures value { λ r. ⌜ Offered (c .bits) (clause-list (now (self .entry))) (clause-list (now (self .exit))) r ⌝ }
         ensures means { λ r. ⌜ ByOk r (λ _. And-also (clause-list (now (self .entry))) (c .bits) (clause-list (now (self .exit)))) (λ _. Unit {0}) ⌝ }
+        ensures smallest { λ r. ⌜ ByOk r (λ _. Smallest-of (clause-list (now (self .entry))) (c .bits) (clause-list (now (self .exit)))) (λ _. Unit {0}) ⌝ }
     {
         match self.spot(c) {
             Spot::Held => Ok(()),

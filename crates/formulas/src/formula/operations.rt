@@ -1,9 +1,8 @@
 //! "And" and "or" of formulas, and the two simplest ones.
 ghost use mathlib.Core.Path.{_≡_};
-ghost use Rattle.std.specs.Orderings.{Decides};
 ghost use Rattle.std.specs.Results.{Cases as ByOk};
 ghost use Rattle.formulas.specs.Formulas.{both, either, impossible, neutral};
-ghost use Rattle.formulas.specs.FormulaViews.{formula-list, found, And, Or};
+ghost use Rattle.formulas.specs.FormulaViews.{formula-list, found, And, Or, Told-apart};
 ghost use Rattle.formulas.specs.Masks.{masks};
 use crate::clauses::Clauses;
 use crate::clauses::Overflow;
@@ -71,8 +70,9 @@ impl Formula {
     }
 }
 
+/// Formulas are equal exactly where they meet the same sets.
 pub impl PartialEq<Formula> for Formula as FormulaPartialEq {
-    ghost equals = { λ a b r. Decides r (formula-list a ≡ formula-list b) };
+    ghost equals = { λ a b r. Told-apart (formula-list a) (formula-list b) r };
 
     fn eq(&self, other: &Formula) -> bool {
         self.clauses() == other.clauses()

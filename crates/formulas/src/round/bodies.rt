@@ -35,7 +35,12 @@ impl Round {
     }
 
     /// The formula of a symbol and what comes after it.
-    fn in_front(&self, table: &EffectTable, symbol: Symbol, rest: &Formula) -> Result<Formula, Overflow>
+    fn in_front(
+        &self,
+        table: &EffectTable,
+        symbol: Symbol,
+        rest: &Formula,
+    ) -> Result<Formula, Overflow>
         ensures { λ r. ⌜ found r ≡ in-front 64 (view (now (table .entry))) (formulas-of (now (self .entry))) symbol (formula-list (now (rest .entry))) ⌝ }
     {
         match symbol {

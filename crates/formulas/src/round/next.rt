@@ -18,7 +18,12 @@ use rules::table::EffectTable;
 
 impl Round {
     /// The formula of a procedure in the next round: its bodies by the number of their records.
-    fn next_formula(&self, set: &ProcedureSet, table: &EffectTable, p: Procedure) -> Result<Formula, Overflow>
+    fn next_formula(
+        &self,
+        set: &ProcedureSet,
+        table: &EffectTable,
+        p: Procedure,
+    ) -> Result<Formula, Overflow>
         ensures { λ r. ⌜ found r ≡ next-formula 64 (view (now (table .entry))) (entries (now (set .entry))) (formulas-of (now (self .entry))) p ⌝ }
     {
         let Some(owner) = set.owner(p) else {

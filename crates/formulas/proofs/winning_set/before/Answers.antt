@@ -13,10 +13,11 @@ pub loop-i-again : need.loop-i-again
 loop-i-again c =
     let f : ℕ → Bool = λ e. has (c .args .set .bits) (join-of (view (c .args .table .now)) e (c .args .k)) in
     elim (c .if-leads .came) [
-      then-leads w ↦
-      ap (λ s. s .bits) (w .leading-is) ∙ w .with-leading .ensures .value
-      ∙ member-more f 64 (c .loop-i .i) (c .loop-i .leading .bits) (omega (arith, c .loop-i-test .taken, c .effects-i-end .ensures, c .args .table .now .few)) (c .loop-i .inv) (sym (c .leads .ensures) ∙ w .if-leads .taken)
-    | else-leads w ↦ ap (λ s. s .bits) (w .leading-is) ∙ member-not f (c .loop-i .i) (c .loop-i .leading .bits) (c .loop-i .inv) (sym (c .leads .ensures) ∙ w .if-leads .left) ]
+      | then-leads w ↦
+          ap (λ s. s .bits) (w .leading-is) ∙ w .with-leading .ensures .value
+          ∙ member-more f 64 (c .loop-i .i) (c .loop-i .leading .bits) (omega (arith, c .loop-i-test .taken, c .effects-i-end .ensures, c .args .table .now .few)) (c .loop-i .inv) (sym (c .leads .ensures) ∙ w .if-leads .taken)
+      | else-leads w ↦ ap (λ s. s .bits) (w .leading-is) ∙ member-not f (c .loop-i .i) (c .loop-i .leading .bits) (c .loop-i .inv) (sym (c .leads .ensures) ∙ w .if-leads .left)
+    ]
 
 pub returns : need.returns
 returns c =

@@ -16,10 +16,11 @@ loop-i-again g c =
     let f : ℕ → Bool = λ e. assigned lists (c .args .p) (after-effect (view (c .args .table .now)) (c .args .set .bits) e) in
     let is : c .all-meet .result ≡ f (c .loop-i .i) = c .all-meet .ensures ∙ ap (λ A. meets (has A) (lists (c .args .p))) (c .after .ensures) in
     elim (c .if-all-meet .came) [
-      then-all-meet w ↦
-      ap (λ s. s .bits) (w .winning-is) ∙ w .with-winning .ensures .value
-      ∙ member-more f 64 (c .loop-i .i) (c .loop-i .winning .bits) (omega (arith, c .loop-i-test .taken, c .effects-i-end .ensures, c .args .table .now .few)) (c .loop-i .inv) (sym is ∙ w .if-all-meet .taken)
-    | else-all-meet w ↦ ap (λ s. s .bits) (w .winning-is) ∙ member-not f (c .loop-i .i) (c .loop-i .winning .bits) (c .loop-i .inv) (sym is ∙ w .if-all-meet .left) ]
+      | then-all-meet w ↦
+          ap (λ s. s .bits) (w .winning-is) ∙ w .with-winning .ensures .value
+          ∙ member-more f 64 (c .loop-i .i) (c .loop-i .winning .bits) (omega (arith, c .loop-i-test .taken, c .effects-i-end .ensures, c .args .table .now .few)) (c .loop-i .inv) (sym is ∙ w .if-all-meet .taken)
+      | else-all-meet w ↦ ap (λ s. s .bits) (w .winning-is) ∙ member-not f (c .loop-i .i) (c .loop-i .winning .bits) (c .loop-i .inv) (sym is ∙ w .if-all-meet .left)
+    ]
 
 pub returns : need.returns
 returns g c =

@@ -13,10 +13,11 @@ pub loop-i-holds : need.loop-i-holds
 loop-i-holds g c = (omega arith, winning-end (view (c .args .table .now)) (assigned (g .L·ClauseLists .lists (c .args .lists .now))) (c .args .target .bits) (c .args .list .now))
 
 pub loop-i-again : need.loop-i-again
-loop-i-again g c =
-    (omega (arith, c .loop-i .inv .0),
-     c .before-symbol-winning .ensures ∙ winning-more (view (c .args .table .now)) (assigned (g .L·ClauseLists .lists (c .args .lists .now))) (c .args .target .bits) (c .args .list .now) (c .loop-i .i) _ (c .loop-i .winning .bits)
-     (omega (arith, c .loop-i-test .taken)) (c .loop-i .inv .0) (c .loop-i .inv .1))
+loop-i-again g c = (
+  omega (arith, c .loop-i .inv .0),
+  c .before-symbol-winning .ensures ∙ winning-more (view (c .args .table .now)) (assigned (g .L·ClauseLists .lists (c .args .lists .now))) (c .args .target .bits) (c .args .list .now) (c .loop-i .i) _ (c .loop-i .winning .bits)
+      (omega (arith, c .loop-i-test .taken)) (c .loop-i .inv .0) (c .loop-i .inv .1),
+)
 
 pub returns : need.returns
 returns g c =

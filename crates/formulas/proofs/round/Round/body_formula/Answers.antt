@@ -23,10 +23,11 @@ returns-in-Break-formula c =
     ∙ sym (body-none 64 t L s _ (body-more 64 t L s (c .loop-i .i) _ (formula-list (c .loop-i .formula)) None (omega (arith, c .loop-i-test .taken)) (c .loop-i .inv .0) (c .loop-i .inv .1) (sym (c .in-Break-formula .ensures tt))))
 
 pub loop-i-again : need.loop-i-again
-loop-i-again c =
-    (omega (arith, c .loop-i .inv .0),
-     body-more 64 (view (c .args .table .now)) (formulas-of (c .args .self .now)) (c .args .body .now) (c .loop-i .i) _ (formula-list (c .loop-i .formula)) (Some (formula-list (c .in-Continue-formula .formula)))
-     (omega (arith, c .loop-i-test .taken)) (c .loop-i .inv .0) (c .loop-i .inv .1) (sym (c .in-Continue-formula .ensures tt)))
+loop-i-again c = (
+  omega (arith, c .loop-i .inv .0),
+  body-more 64 (view (c .args .table .now)) (formulas-of (c .args .self .now)) (c .args .body .now) (c .loop-i .i) _ (formula-list (c .loop-i .formula)) (Some (formula-list (c .in-Continue-formula .formula)))
+      (omega (arith, c .loop-i-test .taken)) (c .loop-i .inv .0) (c .loop-i .inv .1) (sym (c .in-Continue-formula .ensures tt)),
+)
 
 pub returns : need.returns
 returns c =

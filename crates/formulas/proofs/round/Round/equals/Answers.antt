@@ -18,18 +18,19 @@ loop-p-again c =
     let t = c .ne .ensures in
     below-more _ _ (c .loop-p .inv)
     (getD-map formula-list (a .formulas) (c .loop-p .p) (c .index-self-p .result) [] (omega (arith, a .whole, c .loop-p-test .taken))
-    ∙ told-same (t .0) (c .ne .result) (t .1) (t .2) (c .if-ne .left)
+    ∙ told-same (t .0) (c .ne .result) (t .1 .equal) (t .2) (c .if-ne .left)
     ∙ sym (getD-map formula-list (b .formulas) (c .loop-p .p) (c .index-other-p .result) [] (omega (arith, b .whole, c .loop-p-test .taken))))
 
 pub returns-then-ne : need.returns-then-ne
 returns-then-ne c =
     let a = c .args .self .now in
     let b = c .args .other .now in
-    let t = c .ne .ensures in
-    (λ e. absurd (both-ways false refl e),
-     λ e. absurd (told-other (t .0) (c .ne .result) (t .1) (t .2) (c .if-ne .taken)
-     (sym (getD-map formula-list (a .formulas) (c .loop-p .p) (c .index-self-p .result) [] (omega (arith, a .whole, c .loop-p-test .taken)))
-     ∙ ap (λ l. getD l (c .loop-p .p) []) e ∙ getD-map formula-list (b .formulas) (c .loop-p .p) (c .index-other-p .result) [] (omega (arith, b .whole, c .loop-p-test .taken)))))
+    let t = c .ne .ensures in (
+      λ e. absurd (both-ways false refl e),
+      λ e. absurd (told-other (t .0) (c .ne .result) (t .1 .equal) (t .2) (c .if-ne .taken)
+          (sym (getD-map formula-list (a .formulas) (c .loop-p .p) (c .index-self-p .result) [] (omega (arith, a .whole, c .loop-p-test .taken)))
+          ∙ ap (λ l. getD l (c .loop-p .p) []) e ∙ getD-map formula-list (b .formulas) (c .loop-p .p) (c .index-other-p .result) [] (omega (arith, b .whole, c .loop-p-test .taken)))),
+    )
 
 pub returns : need.returns
 returns c =

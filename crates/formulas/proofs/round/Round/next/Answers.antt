@@ -16,10 +16,11 @@ returns-in-rest c =
     sym (ap round-answer (gathering-off (view (c .args .table .now)) (entries (c .args .set .now)) (formulas-of (c .args .self .now)) (c .loop-p .formulas) (c .loop-p .p) (omega (arith, procedures-are, c .loop-p-test .taken)) (c .loop-p .inv .1) (sym (c .in-rest .ensures tt))))
 
 pub loop-p-again : need.loop-p-again
-loop-p-again c =
-    (length-set (c .loop-p .formulas) (c .loop-p .p) (c .in-Ok .formula) ∙ c .loop-p .inv .0,
-     gathering-more (view (c .args .table .now)) (entries (c .args .set .now)) (formulas-of (c .args .self .now)) (c .loop-p .formulas) (c .loop-p .p) (omega (arith, procedures-are, c .loop-p-test .taken)) (c .loop-p .inv .1)
-     (c .in-Ok .formula) (omega (arith, c .loop-p .inv .0, c .loop-p-test .taken)) (sym (c .in-Ok .ensures tt)))
+loop-p-again c = (
+  length-set (c .loop-p .formulas) (c .loop-p .p) (c .in-Ok .formula) ∙ c .loop-p .inv .0,
+  gathering-more (view (c .args .table .now)) (entries (c .args .set .now)) (formulas-of (c .args .self .now)) (c .loop-p .formulas) (c .loop-p .p) (omega (arith, procedures-are, c .loop-p-test .taken)) (c .loop-p .inv .1)
+      (c .in-Ok .formula) (omega (arith, c .loop-p .inv .0, c .loop-p-test .taken)) (sym (c .in-Ok .ensures tt)),
+)
 
 pub ghost-result : need.ghost-result
 ghost-result c = (c .loop-p .inv .0, tt)

@@ -57,14 +57,15 @@ loop-i-again c =
     let r = entry-of (c .in-Some-get .record) in
     let so-far = mapped formula-list (c .loop-i .so-far) in
     elim (c .if-procedure-p .came) [
-      then-procedure-p·in-Continue-formula·in-Continue-combine w ↦
-      ap (λ x. combined-on 64 t L o (mapped formula-list x) (bodies (drop (i + 1) rs) p)) (w .so-far-is)
-      ∙ sym (on-mixed 64 t L o rs p i r (c .in-Some-get .ensures tt) so-far (sym (c .procedure .ensures) ∙ w .if-procedure-p .taken)
-      (formula-list (w .in-Continue-formula .formula)) (Some (formula-list (w .in-Continue-combine .field-0))) (ap (body-formula 64 t L) (sym (w .body .ensures)) ∙ sym (w .in-Continue-formula .ensures tt)) (sym (w .in-Continue-combine .ensures tt)))
-      ∙ c .loop-i .inv
-    | else-procedure-p w ↦
-      ap (λ x. combined-on 64 t L o (mapped formula-list x) (bodies (drop (i + 1) rs) p)) (w .so-far-is)
-      ∙ sym (on-other 64 t L o rs p i r (c .in-Some-get .ensures tt) so-far (λ e. w .if-procedure-p .left (c .procedure .ensures ∙ e))) ∙ c .loop-i .inv ]
+      | then-procedure-p·in-Continue-formula·in-Continue-combine w ↦
+          ap (λ x. combined-on 64 t L o (mapped formula-list x) (bodies (drop (i + 1) rs) p)) (w .so-far-is)
+          ∙ sym (on-mixed 64 t L o rs p i r (c .in-Some-get .ensures tt) so-far (sym (c .procedure .ensures) ∙ w .if-procedure-p .taken)
+          (formula-list (w .in-Continue-formula .formula)) (Some (formula-list (w .in-Continue-combine .field-0))) (ap (body-formula 64 t L) (sym (w .body .ensures)) ∙ sym (w .in-Continue-formula .ensures tt)) (sym (w .in-Continue-combine .ensures tt)))
+          ∙ c .loop-i .inv
+      | else-procedure-p w ↦
+          ap (λ x. combined-on 64 t L o (mapped formula-list x) (bodies (drop (i + 1) rs) p)) (w .so-far-is)
+          ∙ sym (on-other 64 t L o rs p i r (c .in-Some-get .ensures tt) so-far (λ e. w .if-procedure-p .left (c .procedure .ensures ∙ e))) ∙ c .loop-i .inv
+    ]
 
 pub returns-in-Some-so-far : need.returns-in-Some-so-far
 returns-in-Some-so-far c =
