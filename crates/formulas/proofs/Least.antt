@@ -15,7 +15,7 @@ use Rattle.foundation.specs.Tests.{any, all}
 use Rattle.foundation.specs.laws.Bits.{same-tests}
 use Rattle.foundation.specs.laws.Tests.{any-in, in-any, all-in, in-all}
 use Rattle.rules.specs.Tables.{Table}
-use Rattle.formulas.specs.declared.clauses.Overflow.{Overflow}
+use Rattle.formulas.specs.declared.fault.Overflow.{Overflow}
 use Rattle.formulas.specs.declared.formula.Formula.{Formula}
 use Rattle.formulas.specs.declared.symbol.Owner.{Owner}
 use Rattle.formulas.specs.declared.symbol.Owner.the-variants.{Station, Field}

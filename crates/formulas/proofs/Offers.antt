@@ -16,7 +16,7 @@ use Rattle.std.proofs.shelf.Lists.{length-map, length-append, getD-map, drop-mo
 use Rattle.foundation.specs.declared.effect_set.EffectSet.{EffectSet}
 use Rattle.foundation.specs.Sets.{within}
 use Rattle.foundation.specs.Tests.{any}
-use Rattle.formulas.specs.declared.clauses.Overflow.{Overflow}
+use Rattle.formulas.specs.declared.fault.Overflow.{Overflow}
 use Rattle.formulas.specs.Clauses.{Offered-all}
 use Rattle.formulas.specs.Steps.{bind}
 use Rattle.formulas.specs.Formulas.{outside, placed, offer, offers, unions}

@@ -23,7 +23,7 @@ use Rattle.rules.specs.declared.table.EffectTable.{EffectTable}
 use Rattle.rules.specs.Lookups.{table-join}
 use Rattle.rules.specs.Surveys.{view}
 use Rattle.rules.specs.Tables.{Table, join-of}
-use Rattle.formulas.specs.declared.clauses.Overflow.{Overflow}
+use Rattle.formulas.specs.declared.fault.Overflow.{Overflow}
 use Rattle.formulas.specs.declared.formula.Formula.{Formula}
 use Rattle.formulas.specs.Steps.{bind}
 use Rattle.formulas.specs.Formulas.{impossible, offer, offers, joins, joined, both, either, shift, or-after, and-after}

@@ -11,7 +11,7 @@ use Rattle.std.specs.declared.result.Result.the-variants.{Ok, Err}
 use Rattle.foundation.specs.Sets.{within, hits}
 use Rattle.foundation.specs.Tests.{any}
 use Rattle.formulas.specs.declared.clauses.Clauses.{Clauses}
-use Rattle.formulas.specs.declared.clauses.Overflow.{Overflow}
+use Rattle.formulas.specs.declared.fault.Overflow.{Overflow}
 use Rattle.formulas.specs.declared.clauses.offering.Spot.{Spot}
 use Rattle.formulas.specs.declared.clauses.offering.Spot.the-variants.{Held, At}
 use Rattle.formulas.specs.Formulas.{meets, offer, offers, outside, placed}

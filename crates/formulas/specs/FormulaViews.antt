@@ -10,7 +10,7 @@ use Rattle.std.specs.declared.result.Result.{Result}
 use Rattle.std.specs.declared.result.Result.the-variants.{Ok, Err}
 use Rattle.foundation.specs.Bits.{has}
 use Rattle.rules.specs.Tables.{Table}
-use Rattle.formulas.specs.declared.clauses.Overflow.{Overflow}
+use Rattle.formulas.specs.declared.fault.Overflow.{Overflow}
 use Rattle.formulas.specs.declared.formula.Formula.{Formula}
 use Rattle.formulas.specs.Clauses.{clause-list}
 use Rattle.formulas.specs.Formulas.{meets, Below-width, leading, going-on}

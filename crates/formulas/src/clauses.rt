@@ -9,18 +9,11 @@ use foundation::effect_set::EffectSet;
 
 mod offering;
 
-/// How many clauses may stand.
-pub const MOST_CLAUSES: usize = 64;
-
 /// 0 to 64 clauses, none within another, in rising order. Formulas are built in it.
-pub struct Clauses {
+pub(crate) struct Clauses {
     sets: Bounded<EffectSet, 64>,
     ghost rising: { Climbs (held sets) },
     ghost apart: { none-within (held sets) ≡ true },
 }
 
 impl Copy for Clauses {}
-
-/// One clause more would stand than there is room for.
-#[derive(Clone, Copy)]
-pub struct Overflow;

@@ -66,3 +66,7 @@ impl SolveFault {
         }
     }
 }
+
+/// One clause more would stand in a formula than there is room for.
+#[derive(Clone, Copy)]
+pub struct Overflow;

@@ -1,10 +1,10 @@
 //! Procedure sets, formulas over effect numbers, and the rounds that settle them.
-pub mod clauses;
+mod clauses;
 pub mod fault;
 pub mod formula;
 pub mod procedure_set;
 pub mod record;
-pub mod round;
+mod round;
 pub mod solution;
 pub mod symbol;
 pub mod winning_set;

@@ -11,7 +11,7 @@ mod next;
 pub(crate) const PROCEDURES: usize = 32;
 
 /// The formulas of all procedures, by number.
-pub struct Round {
+pub(crate) struct Round {
     formulas: [Formula; 32],
     ghost whole: { length formulas ≡ 32 },
 }

@@ -12,7 +12,7 @@ ghost use Rattle.formulas.specs.Searches.{first-bad};
 ghost use Rattle.formulas.specs.Solutions.{settled-of, solution-viewed};
 ghost use Rattle.formulas.specs.Solving.{known, known-body, settle, solved, Solved};
 ghost use Rattle.formulas.specs.Symbols.{Entry};
-use crate::clauses::Overflow;
+use crate::fault::Overflow;
 use crate::fault::SolveFault;
 use crate::formula::Formula;
 use crate::procedure_set::ProcedureSet;

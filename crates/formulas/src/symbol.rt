@@ -6,7 +6,7 @@ use rules::rule::Command;
 /// The number of a procedure, 0 to 31.
 pub type Procedure = u8;
 
-#[derive(Clone, Copy, PartialEq, Eq, Debug)]
+#[derive(Clone, Copy)]
 pub enum Symbol {
     Command(Command),
     Procedure(Procedure),
@@ -26,7 +26,7 @@ impl Symbol {
 }
 
 /// The side that takes a procedure's branches.
-#[derive(Clone, Copy, PartialEq, Eq, Debug)]
+#[derive(Clone, Copy, PartialEq, Eq)]
 pub enum Owner {
     Station,
     Field,

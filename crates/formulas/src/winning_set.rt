@@ -27,7 +27,7 @@ pub trait ClauseLists {
 }
 
 /// Whether every clause has a member in the set.
-pub fn each_meets(clauses: &[EffectSet], set: EffectSet) -> bool
+pub(crate) fn each_meets(clauses: &[EffectSet], set: EffectSet) -> bool
     ensures { λ r. ⌜ r ≡ meets (has (set .bits)) (masks (now (clauses .entry))) ⌝ }
 {
     for clause in clauses {

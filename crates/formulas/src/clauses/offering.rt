@@ -12,7 +12,7 @@ ghost use Rattle.formulas.specs.Clauses.{clause-list, Spots, entering, Offered
 ghost use Rattle.formulas.specs.Formulas.{outside};
 ghost use Rattle.formulas.specs.Masks.{masks, held};
 use crate::clauses::Clauses;
-use crate::clauses::Overflow;
+use crate::fault::Overflow;
 use foundation::bounded::Bounded;
 use foundation::effect_set::EffectSet;
 
@@ -26,7 +26,7 @@ enum Spot {
 }
 
 impl Clauses {
-    pub fn none() -> Clauses
+    pub(crate) fn none() -> Clauses
         ensures { λ r. ⌜ clause-list r ≡ [] ⌝ }
     {
         Clauses {
@@ -34,7 +34,7 @@ impl Clauses {
         }
     }
 
-    pub fn one(c: EffectSet) -> Clauses
+    pub(crate) fn one(c: EffectSet) -> Clauses
         ensures { λ r. ⌜ clause-list r ≡ c .bits ∷ [] ⌝ }
     {
         let mut sets = Bounded::empty(c);
@@ -42,7 +42,7 @@ impl Clauses {
         Clauses { sets }
     }
 
-    pub fn as_slice(&self) -> &[EffectSet]
+    pub(crate) fn as_slice(&self) -> &[EffectSet]
         ensures { λ r. ⌜ masks (now r) ≡ clause-list (now (self .entry)) ⌝ }
     {
         self.sets.as_slice()
@@ -87,7 +87,7 @@ impl Clauses {
 
     /// Takes `c` as one clause more, and lets go of those that contain it. Nothing changes where a
     /// clause lies within `c`, nor where there is no room.
-    pub fn offer(&mut self, c: EffectSet) -> Result<(), Overflow>
+    pub(crate) fn offer(&mut self, c: EffectSet) -> Result<(), Overflow>
         ensures value { λ r. ⌜ Offered (c .bits) (clause-list (now (self .entry))) (clause-list (now (self .exit))) r ⌝ }
         ensures means { λ r. ⌜ ByOk r (λ _. And-also (clause-list (now (self .entry))) (c .bits) (clause-list (now (self .exit)))) (λ _. Unit {0}) ⌝ }
         ensures smallest { λ r. ⌜ ByOk r (λ _. Smallest-of (clause-list (now (self .entry))) (c .bits) (clause-list (now (self .exit)))) (λ _. Unit {0}) ⌝ }
@@ -105,7 +105,7 @@ impl Clauses {
     }
 
     /// Offers each clause of a list in order.
-    pub fn offer_all(&mut self, list: &[EffectSet]) -> Result<(), Overflow>
+    pub(crate) fn offer_all(&mut self, list: &[EffectSet]) -> Result<(), Overflow>
         ensures { λ r. ⌜ Offered-all (clause-list (now (self .entry))) (masks (now (list .entry))) (clause-list (now (self .exit))) r ⌝ }
     {
         for clause in list {

@@ -5,14 +5,14 @@ ghost use Rattle.formulas.specs.Formulas.{both, either, impossible, neutral};
 ghost use Rattle.formulas.specs.FormulaViews.{formula-list, found, And, Or, Told-apart};
 ghost use Rattle.formulas.specs.Masks.{masks};
 use crate::clauses::Clauses;
-use crate::clauses::Overflow;
+use crate::fault::Overflow;
 use crate::formula::Formula;
 use foundation::effect_set::EffectSet;
 use foundation::effect_set::EffectSetPartialEq;
 
 impl Formula {
     /// The formula that meets no set: its one clause has no members.
-    pub fn impossible() -> Formula
+    pub(crate) fn impossible() -> Formula
         ensures { λ r. ⌜ formula-list r ≡ impossible ⌝ }
     {
         Formula {
@@ -21,7 +21,7 @@ impl Formula {
     }
 
     /// The formula that meets the sets with the neutral effect.
-    pub fn neutral() -> Formula
+    pub(crate) fn neutral() -> Formula
         ensures { λ r. ⌜ formula-list r ≡ neutral ⌝ }
     {
         Formula {
@@ -36,7 +36,7 @@ impl Formula {
     }
 
     /// The formula that meets what both meet.
-    pub fn both(&self, other: &Formula) -> Result<Formula, Overflow>
+    pub(crate) fn both(&self, other: &Formula) -> Result<Formula, Overflow>
         ensures value { λ r. ⌜ found r ≡ both 64 (formula-list (now (self .entry))) (formula-list (now (other .entry))) ⌝ }
         ensures means { λ r. ⌜ ByOk r (λ f. And (formula-list (now (self .entry))) (formula-list (now (other .entry))) (formula-list f)) (λ _. Unit {0}) ⌝ }
     {
@@ -46,7 +46,7 @@ impl Formula {
     }
 
     /// The formula that meets what one of the two meets.
-    pub fn either(&self, other: &Formula) -> Result<Formula, Overflow>
+    pub(crate) fn either(&self, other: &Formula) -> Result<Formula, Overflow>
         ensures value { λ r. ⌜ found r ≡ either 64 (formula-list (now (self .entry))) (formula-list (now (other .entry))) ⌝ }
         ensures means { λ r. ⌜ ByOk r (λ f. Or (formula-list (now (self .entry))) (formula-list (now (other .entry))) (formula-list f)) (λ _. Unit {0}) ⌝ }
     {

@@ -8,7 +8,7 @@ ghost use Rattle.rules.specs.Surveys.{view};
 ghost use Rattle.formulas.specs.Formulas.{joined, shift, or-after, then, impossible};
 ghost use Rattle.formulas.specs.FormulaViews.{formula-list, found, After, Composed};
 use crate::clauses::Clauses;
-use crate::clauses::Overflow;
+use crate::fault::Overflow;
 use crate::formula::Formula;
 use foundation::effect_set::EffectNumber;
 use foundation::effect_set::EffectSet;
@@ -34,7 +34,7 @@ fn joins(table: &EffectTable, e: EffectNumber, clause: EffectSet) -> EffectSet
 
 impl Formula {
     /// The formula after the effect `e`.
-    pub fn shift(&self, table: &EffectTable, e: EffectNumber) -> Result<Formula, Overflow>
+    pub(crate) fn shift(&self, table: &EffectTable, e: EffectNumber) -> Result<Formula, Overflow>
         ensures value { λ r. ⌜ found r ≡ shift 64 (view (now (table .entry))) e (formula-list (now (self .entry))) ⌝ }
         ensures means { λ r. ⌜ ByOk r (λ f. After (view (now (table .entry))) e (formula-list (now (self .entry))) (formula-list f)) (λ _. Unit {0}) ⌝ }
     {
@@ -63,7 +63,7 @@ impl Formula {
     }
 
     /// This formula, and then `next`.
-    pub fn then(&self, table: &EffectTable, next: &Formula) -> Result<Formula, Overflow>
+    pub(crate) fn then(&self, table: &EffectTable, next: &Formula) -> Result<Formula, Overflow>
         ensures value { λ r. ⌜ found r ≡ then 64 (view (now (table .entry))) (formula-list (now (self .entry))) (formula-list (now (next .entry))) ⌝ }
         ensures means { λ r. ⌜ ByOk r (λ f. Composed (view (now (table .entry))) (formula-list (now (self .entry))) (formula-list (now (next .entry))) (formula-list f)) (λ _. Unit {0}) ⌝ }
     {

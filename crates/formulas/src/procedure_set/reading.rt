@@ -1,11 +1,14 @@
 //! Reading a procedure set from its bytes, in three passes: forms, owners, bodies.
 ghost use mathlib.Core.Path.{_≡_};
-ghost use mathlib.Core.List.{map};
+ghost use mathlib.Core.List.{List, map};
+ghost use Rattle.std.specs.declared.result.Result.{Result};
 ghost use Rattle.foundation.specs.Tests.{all};
 ghost use Rattle.formulas.specs.Checks.{agreed, recorded, bodied};
 ghost use Rattle.formulas.specs.Entries.{entry-of};
 ghost use Rattle.formulas.specs.Records.{viewed, listed, read-records, read-set, Read};
 ghost use Rattle.formulas.specs.Searches.{first-bad};
+ghost use Rattle.formulas.specs.Symbols.{Entry};
+ghost use Rattle.formulas.specs.declared.fault.RecordsFault.{RecordsFault};
 use crate::fault::RecordsFault;
 use crate::procedure_set::ProcedureSet;
 use crate::procedure_set::lookup::first_owner;
@@ -22,6 +25,7 @@ impl ProcedureSet {
     pub fn read(bytes: &[u8]) -> Result<ProcedureSet, RecordsFault>
         ensures value { λ r. ⌜ viewed r ≡ read-set (now (bytes .entry)) ⌝ }
         ensures words { λ r. ⌜ Read (now (bytes .entry)) (viewed r) ⌝ }
+        ensures only { λ r. ⌜ ((x : Result (List Entry) RecordsFault) → Read (now (bytes .entry)) x → x ≡ viewed r) ⌝ }
     {
         let records = read_records(bytes)?;
         if let Some(i) = first_stray(records.as_slice()) {

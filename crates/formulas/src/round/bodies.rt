@@ -4,7 +4,7 @@ ghost use Rattle.rules.specs.Surveys.{view};
 ghost use Rattle.formulas.specs.FormulaViews.{formula-list, found};
 ghost use Rattle.formulas.specs.RoundViews.{formulas-of};
 ghost use Rattle.formulas.specs.Rounds.{first-round, formula-at, in-front, body-formula};
-use crate::clauses::Overflow;
+use crate::fault::Overflow;
 use crate::formula::Formula;
 use crate::round::PROCEDURES;
 use crate::round::Round;
@@ -23,7 +23,7 @@ impl Round {
     }
 
     /// The formula of a procedure; a number that is none's has the impossible one.
-    pub fn formula(&self, p: Procedure) -> Formula
+    pub(crate) fn formula(&self, p: Procedure) -> Formula
         ensures { λ r. ⌜ formula-list r ≡ formula-at (formulas-of (now (self .entry))) p ⌝ }
     {
         let at = usize::from(p);
@@ -53,7 +53,11 @@ impl Round {
     }
 
     /// The formula of a list of symbols, worked out from the last one to the first.
-    pub fn body_formula(&self, table: &EffectTable, body: &[Symbol]) -> Result<Formula, Overflow>
+    pub(crate) fn body_formula(
+        &self,
+        table: &EffectTable,
+        body: &[Symbol],
+    ) -> Result<Formula, Overflow>
         ensures { λ r. ⌜ found r ≡ body-formula 64 (view (now (table .entry))) (formulas-of (now (self .entry))) (now (body .entry)) ⌝ }
     {
         let mut formula = Formula::neutral();

@@ -6,7 +6,7 @@ ghost use Rattle.formulas.specs.FormulaViews.{formula-list, found};
 ghost use Rattle.formulas.specs.Records.{entries};
 ghost use Rattle.formulas.specs.RoundViews.{formulas-of, round-viewed, round-answer};
 ghost use Rattle.formulas.specs.Rounds.{mixed-with, next-formula, next-round};
-use crate::clauses::Overflow;
+use crate::fault::Overflow;
 use crate::fault::SolveFault;
 use crate::formula::Formula;
 use crate::procedure_set::ProcedureSet;

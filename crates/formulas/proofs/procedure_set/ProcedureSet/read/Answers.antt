@@ -1,5 +1,5 @@
 use Prim.Native.Nat.{_<_}
-use mathlib.Core.Path.{_∙_, ap}
+use mathlib.Core.Path.{sym, _∙_, ap}
 use mathlib.Core.List.{map}
 use lib.ListN.{length}
 use native.Mathlib.Omega.{arith}
@@ -10,26 +10,27 @@ use Rattle.foundation.specs.Bounds.{items}
 use Rattle.formulas.specs.Entries.{entry-of}
 use Rattle.formulas.specs.Records.{viewed}
 use Rattle.formulas.proofs.InWords.{refused-early, refused-owner, refused-body, set-is-read, set-some, set-agreed, set-bodied}
+use Rattle.formulas.proofs.OneAnswer.{read-fixes}
 use Rattle.formulas.proofs.procedure_set.ProcedureSet.read.Needs as need
 
 pub returns-in-Break-records : need.returns-in-Break-records
 returns-in-Break-records c =
     let p = err-from-errBy (c .from-residual .result) (c .from-residual .ensures .1) in
     let a = refused-early (c .args .bytes .now) (viewed (c .from-residual .result)) (c .in-Break-records .field-0 .0) (ap viewed (p .1 ∙ ap Err (p .2))) (c .in-Break-records .ensures tt) in
-    record { value = a .value; words = a .words }
+    record { value = a .value; words = a .words; only = λ x h. read-fixes (c .args .bytes .now) x h ∙ sym (a .value) }
 
 pub returns-in-Some : need.returns-in-Some
 returns-in-Some c =
     let a = refused-owner (c .args .bytes .now) (map entry-of (items (c .in-Continue-records .records))) (map entry-of (c .as-slice .result .now)) (c .in-Continue-records .ensures tt)
     (c .in-Some .i) (ap (map entry-of) (c .as-slice .ensures)) (c .in-Some .ensures tt) in
-    record { value = a .value; words = a .words }
+    record { value = a .value; words = a .words; only = λ x h. read-fixes (c .args .bytes .now) x h ∙ sym (a .value) }
 
 pub returns-in-Some-first-unrecorded : need.returns-in-Some-first-unrecorded
 returns-in-Some-first-unrecorded c =
     let a = refused-body (c .args .bytes .now) (map entry-of (items (c .in-Continue-records .records))) (map entry-of (c .as-slice .result .now)) (c .in-Continue-records .ensures tt)
     (map entry-of (c .as-slice-2 .result .now)) (ap (map entry-of) (c .as-slice .ensures)) (ap (map entry-of) (c .as-slice-2 .ensures)) (c .in-rest .ensures tt)
     (c .in-Some-first-unrecorded .i) (c .in-Some-first-unrecorded .ensures tt) in
-    record { value = a .value; words = a .words }
+    record { value = a .value; words = a .words; only = λ x h. read-fixes (c .args .bytes .now) x h ∙ sym (a .value) }
 
 pub ghost-result : need.ghost-result
 ghost-result c =
@@ -50,4 +51,4 @@ returns c =
     let a = set-is-read (c .args .bytes .now) (map entry-of (items (c .in-Continue-records .records))) (map entry-of (c .as-slice .result .now)) (c .in-Continue-records .ensures tt)
     (map entry-of (c .as-slice-2 .result .now)) (ap (map entry-of) (c .as-slice .ensures)) (ap (map entry-of) (c .as-slice-2 .ensures)) (c .in-rest .ensures tt)
     (c .in-rest-first-unrecorded .ensures tt) in
-    record { value = a .value; words = a .words }
+    record { value = a .value; words = a .words; only = λ x h. read-fixes (c .args .bytes .now) x h ∙ sym (a .value) }
