@@ -81,7 +81,7 @@ pub impl ClauseLists for Solution as SolutionClauseLists {
     ghost lists = { λ s x. formula-at (settled-of s .formulas) x };
 
     fn all_meet(&self, p: Procedure, set: EffectSet) -> bool {
-        each_meets(self.round.formula(p).clauses(), set)
+        each_meets(self.formula(p).clauses(), set)
     }
 }
 
