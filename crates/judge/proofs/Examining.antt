@@ -7,6 +7,7 @@ use Prim.Native.Nat.{ℕ, _+_, _^_, _<_, _≤_}
 use native.Mathlib.Omega.{arith}
 use lib.ListN.{length, getD}
 use Rattle.std.specs.declared.option.Option.{Option}
+use Rattle.std.specs.declared.option.Option.the-variants.{Some}
 use Rattle.std.specs.declared.result.Result.{Result}
 use Rattle.std.specs.declared.result.Result.the-variants.{Ok, Err}
 use Rattle.std.proofs.shelf.Elements.{all-push, all-getD}
@@ -15,20 +16,19 @@ use Rattle.std.proofs.shelf.Tests.{cases-lt}
 use Rattle.std.proofs.shelf.Ways.{decides-like}
 use Rattle.rules.specs.declared.fault.EffectsFault.{EffectsFault}
 use Rattle.rules.specs.declared.fault.EffectsFault.the-variants.{TooMany, ShortSlice}
-use Rattle.rules.specs.declared.lists.Judgement.{Judgement}
-use Rattle.rules.specs.declared.lists.Judgement.the-variants.{Permitted, Forbidden, Neither}
 use Rattle.rules.specs.declared.table.EffectTable.{EffectTable}
 use Rattle.rules.specs.Automata.{Chartable, Lead-alike}
 use Rattle.rules.specs.Behaviours.{behaviour}
 use Rattle.rules.specs.Boxes.{charted, Charts}
-use Rattle.rules.specs.Judgements.{Judged}
 use Rattle.rules.specs.Meaning.{Below, effect}
 use Rattle.rules.specs.Numbering.{Exceeds}
-use Rattle.rules.specs.Surveys.{Surveyed}
+use Rattle.rules.specs.Surveys.{view, Surveyed}
 use Rattle.rules.specs.laws.Boxes.{charted-lawful}
 use Rattle.rules.proofs.Effects.{effect-own}
+use Rattle.formulas.specs.Records.{Read}
+use Rattle.formulas.specs.Symbols.{Entry}
 use Rattle.judge.specs.declared.fault.JudgeFault.the-variants.{Effects}
-use Rattle.judge.specs.Reports.{Automatic, Said, Too-many, Reported}
+use Rattle.judge.specs.Reports.{Automatic, Too-many, Posed, Reported}
 
 module _ (bytes : List ℕ) (boxes : List ℕ) (finals : List Bool) (boxed : (c : ℕ) → c < 16 → getD boxes c 0 < 2 ^ 64) (chart : Chartable bytes) (charts : Charts bytes (charted boxes finals)) where
   own : (w : List ℕ) → Below 16 w → effect (charted boxes finals) w < 2 ^ 64
@@ -42,10 +42,17 @@ module _ (bytes : List ℕ) (boxes : List ℕ) (finals : List Bool) (boxed : (c 
     breaks = λ w o. ((λ t. charts .forbids w .0 (o, t) .1), (λ never. charts .forbids w .1 (o, never) .1));
   }
 
-  pub said : (w : List ℕ) (j : Judgement) → Judged (charted boxes finals) w j → Said bytes w j
-  said w Permitted h = charts .permits w .0 h
-  said w Forbidden h = charts .forbids w .0 h
-  said w Neither h = h
+  abbrev pub posed : (p : List ℕ) (rs : List Entry) → Read p (Ok rs) → (t : EffectTable) (old new : List ℕ) → Surveyed (charted boxes finals) old new (Ok t) → Posed bytes p
+  posed p rs read t old new s = record {
+    chartable = chart;
+    rule = behaviour (charted boxes finals);
+    automatic = automatic;
+    table = view t;
+    numbers = s .1 .numbers;
+    few = t .few;
+    records = rs;
+    read = read;
+  }
 
   pub too-many : (old new : List ℕ) → Exceeds (charted boxes finals) 64 old new → Too-many bytes
   too-many old new over = record {
@@ -71,9 +78,9 @@ module _ (bytes : List ℕ) (boxes : List ℕ) (finals : List Bool) (boxed : (c 
           over .more-differs i (omega arith) (charts .alike (getD (over .lists) i []) (over .more) (own-at i (omega arith)) (over .more-own) .1
           (subst (λ u. Lead-alike bytes u (over .more)) (old-at i (omega arith)) (subst (Lead-alike bytes (getD (over .lists ++ over .more ∷ []) i [])) e same)))
 
-  -- the table's fault on the way up
-  pub refused : (list : Option (List ℕ)) (old new : List ℕ) (r : Result EffectTable EffectsFault) (f : EffectsFault) → 64 ≤ length old → Surveyed (charted boxes finals) old new r → r ≡ Err f → Reported bytes list (Err (Effects f))
-  refused list old new (Ok t) f room s e = let z : _≡_ {A = ℕ} 0 1 = cc in absurd (omega arith)
-  refused list old new (Err TooMany) TooMany room s e = too-many old new (s .1)
-  refused list old new (Err TooMany) (ShortSlice n) room s e = let z : _≡_ {A = ℕ} 0 1 = cc in absurd (omega arith)
-  refused list old new (Err (ShortSlice k)) f room s e = absurd (omega (arith, s .0))
+  -- the table's fault on the way up, where the records were read
+  pub refused : (procs : Option (List ℕ)) (p : List ℕ) (rs : List Entry) → procs ≡ Some p → Read p (Ok rs) → (old new : List ℕ) (r : Result EffectTable EffectsFault) (f : EffectsFault) → 64 ≤ length old → Surveyed (charted boxes finals) old new r → r ≡ Err f → Reported bytes procs (Err (Effects f))
+  refused procs p rs is read old new (Ok t) f room s e = let z : _≡_ {A = ℕ} 0 1 = cc in absurd (omega arith)
+  refused procs p rs is read old new (Err TooMany) TooMany room s e = (too-many old new (s .1), (p, rs, is, read))
+  refused procs p rs is read old new (Err TooMany) (ShortSlice n) room s e = let z : _≡_ {A = ℕ} 0 1 = cc in absurd (omega arith)
+  refused procs p rs is read old new (Err (ShortSlice k)) f room s e = absurd (omega (arith, s .0))

@@ -1,1 +1,2 @@
 mod Examining
+mod Telling

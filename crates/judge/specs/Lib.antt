@@ -1,2 +1,4 @@
 pub mod Faults
 pub mod Reports
+pub mod Rows
+pub mod Texts

@@ -1,11 +1,12 @@
-//! The judge: makes the chart of `chart.rec` in its folder, numbers its effects, and judges the
-//! list of `list.rec` where there is one.
+//! The judge: solves the procedures of `procs.rec` in its folder under the chart of `chart.rec`,
+//! and prints a line for the whole and one for each procedure.
 mod fault;
 mod files;
 mod report;
 
 use crate::files::read_front;
 use crate::report::ReportDisplay;
+use crate::report::RowDisplay;
 use crate::report::examine;
 use foundation::refusal::RefusalDisplay;
 use std::io;
@@ -14,15 +15,24 @@ fn main(rt: LibcRuntime) -> io::Result<()> {
     let Some(chart) = read_front(&rt, "chart.rec")? else {
         return println!(rt, "no file");
     };
-    let outcome = match read_front(&rt, "list.rec")? {
-        Some(list) => examine(chart.as_slice(), Some(list.as_slice())),
+    // The chart is examined also where the second file is missing, since its refusal comes first.
+    let outcome = match read_front(&rt, "procs.rec")? {
+        Some(procs) => examine(chart.as_slice(), Some(procs.as_slice())),
         None => examine(chart.as_slice(), None),
     };
-    match outcome {
-        Ok(report) => println!(rt, "{report}"),
+    let examined = match outcome {
+        Ok(examined) => examined,
         Err(fault) => {
             let refusal = fault.refusal();
-            println!(rt, "{refusal}")
+            return println!(rt, "{refusal}");
         }
+    };
+    let Some(report) = examined else {
+        return println!(rt, "no file");
+    };
+    println!(rt, "{report}")?;
+    for row in report.rows() {
+        println!(rt, "{row}")?;
     }
+    Ok(())
 }

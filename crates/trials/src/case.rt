@@ -1,37 +1,56 @@
-//! Cases: a rule by its shape and parts, a list to judge, and the room for its effects.
-use rules::rule::Command;
+//! Cases of every kind: a line is read, run and answered by its kind.
+use crate::fault::Fault;
+use crate::solve_case::SolveCase;
+use crate::solve_case::SolveCaseTrial;
+use crate::solve_case::SolveOutcome;
+use crate::solve_case::SolveOutcomeDisplay;
+use crate::table_case::TableCase;
+use crate::table_case::TableCaseTrial;
+use crate::table_case::TableOutcome;
+use crate::table_case::TableOutcomeDisplay;
+use crate::words::Words;
+use std::alloc::Global;
+use std::fmt;
 
-mod reading;
-
-/// What a chart is made from.
 #[derive(Drop)]
-pub struct ChartPart {
-    pub bytes: Vec<u8>,
+pub enum Case {
+    Table(TableCase),
+    Solve(SolveCase),
 }
 
-/// What a count is made from.
+/// What came of a case that was not refused.
 #[derive(Drop)]
-pub struct CountPart {
-    pub modulus: u8,
-    pub permitted: u64,
-    pub weights: Vec<u8>,
+pub enum Outcome {
+    Table(TableOutcome),
+    Solve(SolveOutcome),
 }
 
-/// The shape of a rule, with the parts of its leaves from left to right.
-#[derive(Drop)]
-pub enum Shape {
-    Chart(ChartPart),
-    Count(CountPart),
-    CountAndCount(CountPart, CountPart),
-    ChartAndCount(ChartPart, CountPart),
-    CountAndPair(CountPart, ChartPart, CountPart),
-    PairAndCount(CountPart, CountPart, CountPart),
+impl Case {
+    /// Reads a case from a line. The line of a table's case begins with its shape.
+    pub fn read(heap: Global, line: &str) -> Result<Case, Fault> {
+        let mut words = Words::of(heap, line);
+        let case = match words.word()? {
+            "solve" => Case::Solve(SolveCase::read(&mut words)?),
+            shape_name => Case::Table(TableCase::read(shape_name, &mut words)?),
+        };
+        words.end()?;
+        Ok(case)
+    }
+
+    pub fn run(&self, heap: Global) -> Result<Outcome, Fault> {
+        let outcome = match self {
+            Case::Table(case) => Outcome::Table(case.shape.run(heap, case)?),
+            Case::Solve(case) => Outcome::Solve(case.shape.run(heap, case)?),
+        };
+        Ok(outcome)
+    }
 }
 
-#[derive(Drop)]
-pub struct Case {
-    pub shape: Shape,
-    /// The length of the slice that is to receive the effects.
-    pub room: usize,
-    pub list: Vec<Command>,
+pub impl fmt::Display for Outcome as OutcomeDisplay {
+    fn fmt<W: fmt::Write>(&self, f: &mut fmt::Formatter<W>) -> fmt::Result {
+        match self {
+            Outcome::Table(outcome) => outcome.fmt(f),
+            Outcome::Solve(outcome) => outcome.fmt(f),
+        }
+    }
 }

@@ -1,5 +1,8 @@
 //! Why a case has no outcome.
+use formulas::fault::RecordsFault;
+use formulas::fault::SolveFault;
 use foundation::refusal::Refusal;
+use rules::fault::EffectsFault;
 use rules::fault::RuleFault;
 use std::alloc::AllocError;
 use std::alloc::Refused;
@@ -9,13 +12,31 @@ use std::num::ParseIntError;
 pub enum Fault {
     /// The line does not have the format of a case.
     Malformed,
-    /// The first leaf of the rule that could not be made, from left to right.
+    /// The first refusal that came.
     Refused(Refusal),
     Memory(AllocError),
 }
 
 pub impl From<RuleFault> for Fault as FaultFromRule {
     fn from(fault: RuleFault) -> Fault {
+        Fault::Refused(fault.refusal())
+    }
+}
+
+pub impl From<RecordsFault> for Fault as FaultFromRecords {
+    fn from(fault: RecordsFault) -> Fault {
+        Fault::Refused(fault.refusal())
+    }
+}
+
+pub impl From<EffectsFault> for Fault as FaultFromEffects {
+    fn from(fault: EffectsFault) -> Fault {
+        Fault::Refused(fault.refusal())
+    }
+}
+
+pub impl From<SolveFault> for Fault as FaultFromSolve {
+    fn from(fault: SolveFault) -> Fault {
         Fault::Refused(fault.refusal())
     }
 }

@@ -1,12 +1,15 @@
 //! Runs cases: each line of the standard input is one, and is answered by one line.
 mod case;
 mod fault;
-mod trial;
+mod rule;
+mod solve_case;
+mod table_case;
+mod words;
 
 use crate::case::Case;
+use crate::case::Outcome;
+use crate::case::OutcomeDisplay;
 use crate::fault::Fault;
-use crate::trial::Outcome;
-use crate::trial::OutcomeDisplay;
 use foundation::refusal::RefusalDisplay;
 use std::alloc::Global;
 use std::error::AnyError;

@@ -2,8 +2,8 @@
 use foundation::effect_set::EffectSetDisplay;
 use foundation::refusal::Layer;
 use foundation::refusal::Refusal;
-use rules::fault::RefusalDebug;
-use rules::fault::RefusalPartialEq;
+use foundation::refusal::RefusalDebug;
+use foundation::refusal::RefusalPartialEq;
 use rules::fault::RuleFault;
 use rules::rule::OrderRule;
 use rules::table::EffectTable;

@@ -1,4 +1,4 @@
-//! The worked examples of the order rules: nothing but tests.
+//! The worked examples of order rules and of formulas: nothing but tests.
 #[cfg(test)]
 mod charts;
 #[cfg(test)]
@@ -7,6 +7,8 @@ mod counts;
 mod expect;
 #[cfg(test)]
 mod pairs;
+#[cfg(test)]
+mod procedures;
 #[cfg(test)]
 mod sets;
 #[cfg(test)]

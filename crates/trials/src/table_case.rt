@@ -1,84 +1,77 @@
-//! Running a case: one way for every kind of rule.
-use crate::case::Case;
-use crate::case::ChartPart;
-use crate::case::CountPart;
-use crate::case::Shape;
+//! The first kind of case, `SHAPE ROOM LIST PART ..`: a list is judged, and the effects are numbered.
 use crate::fault::Fault;
 use crate::fault::FaultFromAlloc;
-use crate::fault::FaultFromRule;
+use crate::rule::Shape;
+use crate::rule::Trial;
+use crate::words::Words;
 use foundation::effect_set::EffectNumber;
 use foundation::effect_set::EffectSetDisplay;
 use foundation::refusal::RefusalDisplay;
-use rules::chart::Chart;
-use rules::chart::ChartOrderRule;
-use rules::count::Count;
-use rules::count::CountOrderRule;
 use rules::fault::EffectsFault;
-use rules::fault::RuleFault;
 use rules::lists::Judgement;
 use rules::lists::JudgementDisplay;
 use rules::lists::judge;
-use rules::pair::Pair;
-use rules::pair::PairOrderRule;
+use rules::rule::Command;
 use rules::rule::OrderRule;
 use rules::table::EffectTable;
-use std::alloc::AllocError;
 use std::alloc::Global;
 use std::fmt;
+
+const MOST_ROOM: usize = 100;
 
 /// The numbers of a table's effects are below this.
 const MOST_EFFECTS: EffectNumber = 64;
 
+#[derive(Drop)]
+pub struct TableCase {
+    pub shape: Shape,
+    /// The length of the slice that is to receive the effects.
+    room: usize,
+    list: Vec<Command>,
+}
+
 /// What came of a case whose rule was made.
 #[derive(Drop)]
-pub struct Outcome {
+pub struct TableOutcome {
     judgement: Judgement,
     table: Result<EffectTable, EffectsFault>,
 }
 
-impl Case {
-    pub fn run(&self, heap: Global) -> Result<Outcome, Fault> {
-        let outcome = match &self.shape {
-            Shape::Chart(a) => self.under(heap, &a.make()?)?,
-            Shape::Count(a) => self.under(heap, &a.make()?)?,
-            Shape::CountAndCount(a, b) => self.under(heap, &Pair::new(a.make()?, b.make()?))?,
-            Shape::ChartAndCount(a, b) => self.under(heap, &Pair::new(a.make()?, b.make()?))?,
-            Shape::CountAndPair(a, b, c) => {
-                self.under(heap, &Pair::new(a.make()?, Pair::new(b.make()?, c.make()?)))?
-            }
-            Shape::PairAndCount(a, b, c) => {
-                self.under(heap, &Pair::new(Pair::new(a.make()?, b.make()?), c.make()?))?
-            }
-        };
-        Ok(outcome)
+impl TableCase {
+    /// Reads what comes after the name of the shape.
+    pub fn read(shape_name: &str, words: &mut Words<'_>) -> Result<TableCase, Fault> {
+        let room = read_room(words)?;
+        let list = words.numbers()?;
+        let shape = Shape::read(shape_name, words)?;
+        Ok(TableCase { shape, room, list })
     }
+}
 
-    /// The case under its rule, of whatever kind. The effects are found in a slice of neutral ones.
-    fn under<R: OrderRule>(&self, heap: Global, rule: &R) -> Result<Outcome, AllocError>
+fn read_room(words: &mut Words<'_>) -> Result<usize, Fault> {
+    let room = words.number::<usize>()?;
+    if room > MOST_ROOM {
+        return Err(Fault::Malformed);
+    }
+    Ok(room)
+}
+
+pub impl Trial for TableCase as TableCaseTrial {
+    type Outcome = TableOutcome;
+
+    /// The effects are found in a slice of neutral ones.
+    fn under<R: OrderRule>(&self, heap: Global, rule: &R) -> Result<TableOutcome, Fault>
     where
         R::Effect: Clone,
     {
         let mut slice = vec![in heap; rule.neutral(); self.room]?;
-        Ok(Outcome {
+        Ok(TableOutcome {
             judgement: judge(rule, self.list.as_slice()),
             table: EffectTable::of(rule, slice.as_mut_slice()),
         })
     }
 }
 
-impl ChartPart {
-    fn make(&self) -> Result<Chart, RuleFault> {
-        Chart::new(self.bytes.as_slice())
-    }
-}
-
-impl CountPart {
-    fn make(&self) -> Result<Count, RuleFault> {
-        Count::new(self.modulus, self.weights.as_slice(), self.permitted)
-    }
-}
-
-pub impl fmt::Display for Outcome as OutcomeDisplay {
+pub impl fmt::Display for TableOutcome as TableOutcomeDisplay {
     fn fmt<W: fmt::Write>(&self, f: &mut fmt::Formatter<W>) -> fmt::Result {
         let judgement = self.judgement;
         write!(f, "{judgement} ")?;
