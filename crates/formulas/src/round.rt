@@ -7,7 +7,7 @@ mod bodies;
 mod comparing;
 mod next;
 
-/// How many procedures have a number.
+/// How many formulas a round has, one for each procedure.
 pub(crate) const PROCEDURES: usize = 32;
 
 /// The formulas of all procedures, by number.

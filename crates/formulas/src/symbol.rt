@@ -6,6 +6,9 @@ use rules::rule::Command;
 /// The number of a procedure, 0 to 31.
 pub type Procedure = u8;
 
+/// How many procedures have a number.
+pub const PROCEDURES: Procedure = 32;
+
 #[derive(Clone, Copy)]
 pub enum Symbol {
     Command(Command),

@@ -15,15 +15,13 @@ use crate::fault::JudgeFaultFromSolve;
 use formulas::procedure_set::ProcedureSet;
 use formulas::solution::Solution;
 use formulas::symbol::Owner;
+use formulas::symbol::PROCEDURES;
 use formulas::symbol::Procedure;
 use foundation::bounded::Bounded;
 use rules::chart::Chart;
 use rules::chart::ChartOrderRule;
 use rules::table::EffectTable;
 use std::fmt;
-
-/// How many procedures have a number.
-const PROCEDURES: Procedure = 32;
 
 /// Within how many rounds a solution is looked for: as many as can be allowed, so that a set is
 /// refused as unsettled only where nobody could have it solved.

@@ -11,12 +11,10 @@ ghost use Rattle.formulas.specs.RecordForms.{symbols-in, entry-in};
 use crate::record::RECORD_LEN;
 use crate::record::Record;
 use crate::symbol::Owner;
+use crate::symbol::PROCEDURES;
 use crate::symbol::Procedure;
 use crate::symbol::Symbol;
 use foundation::bounded::Bounded;
-
-/// How many procedures have a number.
-const PROCEDURES: u8 = 32;
 
 /// Where a body begins.
 const BODY: usize = 3;
