@@ -16,4 +16,14 @@ pub(crate) struct Clauses {
     ghost apart: { none_within (held sets) ≡ true },
 }
 
+impl Clone for Clauses {
+    ghost is_clone = { λ x y. y ≡ x };
+
+    ghost is_infallible = { λ _. ⊤ };
+
+    fn clone(&self) -> Result<Clauses, AllocError> {
+        Ok(*self)
+    }
+}
+
 impl Copy for Clauses {}

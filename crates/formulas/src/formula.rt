@@ -14,4 +14,14 @@ pub struct Formula {
     ghost some: { 1 ≤ length (clause_list clauses) },
 }
 
+impl Clone for Formula {
+    ghost is_clone = { λ x y. y ≡ x };
+
+    ghost is_infallible = { λ _. ⊤ };
+
+    fn clone(&self) -> Result<Formula, AllocError> {
+        Ok(*self)
+    }
+}
+
 impl Copy for Formula {}

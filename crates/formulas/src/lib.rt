@@ -1,4 +1,6 @@
 //! Procedure sets, formulas over effect numbers, and the rounds that settle them.
+#![tactic(auto)]
+
 mod clauses;
 pub mod fault;
 pub mod formula;

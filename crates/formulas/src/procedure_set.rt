@@ -20,4 +20,14 @@ pub struct ProcedureSet {
     ghost named: { all (bodied (map entry_of (items records))) (map entry_of (items records)) ≡ true },
 }
 
+impl Clone for ProcedureSet {
+    ghost is_clone = { λ x y. y ≡ x };
+
+    ghost is_infallible = { λ _. ⊤ };
+
+    fn clone(&self) -> Result<ProcedureSet, AllocError> {
+        Ok(*self)
+    }
+}
+
 impl Copy for ProcedureSet {}

@@ -21,4 +21,14 @@ pub struct Record {
     ghost sound: { all proper (items body) ≡ true },
 }
 
+impl Clone for Record {
+    ghost is_clone = { λ x y. y ≡ x };
+
+    ghost is_infallible = { λ _. ⊤ };
+
+    fn clone(&self) -> Result<Record, AllocError> {
+        Ok(*self)
+    }
+}
+
 impl Copy for Record {}

@@ -16,4 +16,14 @@ pub(crate) struct Round {
     ghost whole: { length formulas ≡ 32 },
 }
 
+impl Clone for Round {
+    ghost is_clone = { λ x y. y ≡ x };
+
+    ghost is_infallible = { λ _. ⊤ };
+
+    fn clone(&self) -> Result<Round, AllocError> {
+        Ok(*self)
+    }
+}
+
 impl Copy for Round {}

@@ -24,12 +24,11 @@ use rules::table::EffectTable;
 const MOST_ROUNDS: u32 = 1000;
 
 /// The first round that is equal to the one before it, with its number.
+#[derive(Clone, Copy)]
 pub struct Solution {
     round: Round,
     number: u32,
 }
-
-impl Copy for Solution {}
 
 impl Solution {
     /// Solves within an allowance of rounds.

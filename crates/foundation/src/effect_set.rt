@@ -134,7 +134,11 @@ impl PartialEq for EffectSet {
 
     ghost laws = { Keys.partial_equiv_from_equiv (Prim.search (comparing, rules)) };
 
-    fn eq(&self, other: &EffectSet) -> bool {
+    fn eq(&self, other: &EffectSet) -> bool
+        ensures value { result ≡ on (λ v. v.bits) nat_eq self.now other.now }
+        ensures equal { Decides result (self.now.bits ≡ other.now.bits) }
+        ensures members { Decides result ((k : ℕ) → has self.now.bits k ≡ has other.now.bits k) }
+    {
         self.bits == other.bits
     }
 }

@@ -1,5 +1,7 @@
 //! The judge: solves the procedures of `procs.rec` in its folder under the chart of `chart.rec`,
 //! and prints a line for the whole and one for each procedure.
+#![tactic(auto)]
+
 mod fault;
 mod files;
 mod report;

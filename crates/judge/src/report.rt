@@ -43,13 +43,12 @@ impl fmt::Display for Row {
 
 /// How many effects the chart has, at which round the procedures settled, and a row for each
 /// procedure with a record.
+#[derive(Clone, Copy)]
 pub struct Report {
     effects: usize,
     rounds: u32,
     rows: Bounded<Row, 32>,
 }
-
-impl Copy for Report {}
 
 impl Report {
     pub fn rows(&self) -> &[Row]

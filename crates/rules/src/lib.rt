@@ -1,4 +1,6 @@
 //! Order rules and the effects of command lists.
+#![tactic(auto)]
+
 pub mod chart;
 pub mod count;
 pub mod fault;

@@ -1,4 +1,6 @@
 //! Runs cases: each line of the standard input is one, and is answered by one line.
+#![tactic(auto)]
+
 mod case;
 mod fault;
 mod rule;

@@ -1,4 +1,6 @@
 //! The worked examples of order rules and of formulas: nothing but tests.
+#![tactic(auto)]
+
 #[cfg(test)]
 mod charts;
 #[cfg(test)]

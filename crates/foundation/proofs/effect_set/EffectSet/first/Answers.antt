@@ -7,19 +7,19 @@ use Rattle.foundation.specs.Laws.Members.{members_more, members-none}
 use Rattle.foundation.specs.Laws.Sets.{first_trailing}
 use Rattle.foundation.proofs.effect_set.EffectSet.first.Goals as goal
 
-pub returns-then-is-empty : goal.returns-then-is-empty
-returns-then-is-empty c =
+pub returns-then-is_empty : goal.returns-then-is_empty
+returns-then-is_empty c =
     let s = c.args.self.bits in
-    let e = c.if-is-empty.ensures in
+    let e = c.if-is_empty.ensures in
     record {
       value = sym (cond-true (eqb s 0) None (Some (count_trailing_zeros 64 s)) (sym e.value));
       members = e.members.0 refl;
       listed = sym (ap (λ x. slice_get (members x) 0) (eqb-true s 0 (sym e.value)) ∙ ap (λ l. slice_get l 0) members-none);
     }
 
-pub returns-else-is-empty : goal.returns-else-is-empty
-returns-else-is-empty c =
-    let e : eqb c.args.self.bits 0 ≡ false = sym c.if-is-empty.ensures.value in
+pub returns-else-is_empty : goal.returns-else-is_empty
+returns-else-is_empty c =
+    let e : eqb c.args.self.bits 0 ≡ false = sym c.if-is_empty.ensures.value in
     let p : 0 < c.args.self.bits = omega (arith, eqb-false c.args.self.bits 0 e) in
     record {
       value = sym (cond-false (eqb c.args.self.bits 0) None (Some (count_trailing_zeros 64 c.args.self.bits)) e);

@@ -6,18 +6,18 @@ use Rattle.foundation.specs.Laws.Members.{members_more, members-none}
 use Rattle.foundation.specs.Laws.Sets.{without_first_lem}
 use Rattle.foundation.proofs.effect_set.EffectSet.without_first.Goals as goal
 
-pub returns-then-is-empty : goal.returns-then-is-empty
-returns-then-is-empty c =
+pub returns-then-is_empty : goal.returns-then-is_empty
+returns-then-is_empty c =
     let s = c.args.self.bits in
-    let e = c.if-is-empty.ensures in
+    let e = c.if-is_empty.ensures in
     let n : members s ≡ [] = ap members (eqb-true s 0 (sym e.value)) ∙ members-none in
     record {
       members = λ k. e.members.0 refl k ∙ sym (ap (λ b. b && not (eqb k (count_trailing_zeros 64 s))) (e.members.0 refl k));
       listed = n ∙ sym (ap (drop 1) n);
     }
 
-pub returns-else-is-empty : goal.returns-else-is-empty
-returns-else-is-empty c =
+pub returns-else-is_empty : goal.returns-else-is_empty
+returns-else-is_empty c =
     let s = c.args.self.bits in
-    let p : 0 < s = omega (arith, eqb-false s 0 (sym c.if-is-empty.ensures.value)) in
+    let p : 0 < s = omega (arith, eqb-false s 0 (sym c.if-is_empty.ensures.value)) in
     record { members = λ k. without_first_lem 64 s k p (omega arith); listed = ap (drop 1) (sym (members_more 64 s p (omega arith))) }
