@@ -197,8 +197,8 @@ module _ {E : Type 0} (s : Scheme E) where
       ∙ ap (λ x. then_on x (λ r. walk s (s.room - (i + 1)) (i + 1) r)) p
 
   walk_end : (n i : ℕ) (reg : List E) → length reg ≤ i → walk s n i reg ≡ complete reg
-  walk_end zero i reg h = refl
-  walk_end (suc n) i reg h = cond-false (ltb i (length reg)) (then_on (row s s.commands 0 reg (get_or reg i s.first)) (λ r. walk s n (i + 1) r)) (complete reg) (le-ltb i (length reg) h)
+  walk_end zero i r h = refl
+  walk_end (suc n) i r h = cond-false (ltb i (length r)) (then_on (row s s.commands 0 r (get_or r i s.first)) (λ q. walk s n (i + 1) q)) (complete r) (le-ltb i (length r) h)
 
   -- where a loop stands: so much is registered, and what is left to do gives the whole
   pub record Stands (own : E → Type 0) (old new : List E) (n : ℕ) (rest : List E → Survey E) (whole : Survey E) : Type 0 where

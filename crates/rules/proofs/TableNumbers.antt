@@ -7,7 +7,7 @@ use Rattle.std.proofs.lemmas.List.{append_assoc, append-nil, get_or-map, length-
 use Rattle.std.proofs.lemmas.Option.{slice_get-get_or}
 use Rattle.std.proofs.lemmas.Bool.{both_ways, cases_order}
 use Rattle.rules.specs.Behaviours.{Behaviour, LawfulBehaviour, behaviour}
-use Rattle.foundation.specs.Bits.{has, number}
+use Rattle.foundation.specs.Bits.{number}
 use Rattle.rules.specs.Meaning.{Meaning, Lawful, Below, effect}
 use Rattle.rules.specs.Numbering.{Numbers, Meeting, Before, Numbered, Exceeds}
 use Rattle.rules.specs.Register.{place, written}

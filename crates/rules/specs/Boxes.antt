@@ -29,7 +29,7 @@ charted boxes finals = record {
   command = λ c. slice_index boxes c;
   neutral = identity;
   join = composed;
-  same = eqb;
+  same = nat_eq;
   breaks = λ e. not (accepting finals e);
 }
 

@@ -1,5 +1,5 @@
 -- Counts: sums of weights modulo m.
-use Rattle.std.specs.Prelude.{◌≡◌, ℕ, ◌+◌, ◌%◌, ◌<◌, ◌≤◌, true, not, ◌↔◌, List, [], ◌∷◌, length, slice_index}
+use Rattle.std.specs.Prelude.{◌≡◌, ℕ, ◌+◌, ◌%◌, ◌<◌, ◌≤◌, true, not, ◌↔◌, List, [], ◌∷◌, length, nat_eq, slice_index}
 use Rattle.rules.specs.declared.fault.RuleFault.{RuleFault}
 use Rattle.rules.specs.declared.fault.RuleFault.TheVariants.{ChartLength, ChartRecord, Modulus, WeightCount, Weight, Mask}
 use Rattle.foundation.specs.Bits.{has}
@@ -12,7 +12,7 @@ counted m weights mask = record {
   command = λ c. slice_index weights c;
   neutral = 0;
   join = λ a b. (a + b) % m;
-  same = eqb;
+  same = nat_eq;
   breaks = λ e. not (has mask e);
 }
 

@@ -1,6 +1,5 @@
 -- How each fault is told outside: number, layer and place, case by case.
 use Rattle.std.specs.Prelude.{◌+◌}
-use Rattle.foundation.specs.declared.refusal.Layer.{Layer}
 use Rattle.foundation.specs.declared.refusal.Layer.TheVariants.{Rule, Effects}
 use Rattle.foundation.specs.declared.refusal.Refusal.{Refusal}
 use Rattle.rules.specs.declared.fault.RuleFault.{RuleFault}

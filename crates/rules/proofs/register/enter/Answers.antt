@@ -3,12 +3,12 @@ use Rattle.rules.specs.Register.{place, of_effects}
 use Rattle.rules.proofs.Registering.{enters-known, enters-not, enters-new}
 use Rattle.rules.proofs.register.enter.Goals as goal
 
-pub returns-then-is-some : goal.returns-then-is-some
-returns-then-is-some g c =
+pub returns-then-is_some : goal.returns-then-is_some
+returns-then-is_some g c =
     let m = g.R.OrderRule.meaning c.args.rule.now in
     let n : c.args.count - 0 ≡ c.args.count = omega arith in
     let e = enters-known (of_effects m) c.args.slice.now c.args.count c.args.e c.requires.room c.requires.few c.find.result
-    (c.find.ensures ∙ ap (λ k. place m.same 0 (take k c.args.slice.now) c.args.e) n) (sym c.if-is-some.ensures) in
+    (c.find.ensures ∙ ap (λ k. place m.same 0 (take k c.args.slice.now) c.args.e) n) (sym c.if-is_some.ensures) in
     record { count = e.0; slice = e.1 }
 
 pub returns-then-count-ge-ROOM : goal.returns-then-count-ge-ROOM
@@ -16,7 +16,7 @@ returns-then-count-ge-ROOM g c =
     let m = g.R.OrderRule.meaning c.args.rule.now in
     let n : c.args.count - 0 ≡ c.args.count = omega arith in
     let e = enters-not (of_effects m) c.args.slice.now c.args.count c.args.e c.requires.room c.requires.few c.find.result
-    (c.find.ensures ∙ ap (λ k. place m.same 0 (take k c.args.slice.now) c.args.e) n) (sym c.if-is-some.ensures) c.if-count-ge-ROOM.true in
+    (c.find.ensures ∙ ap (λ k. place m.same 0 (take k c.args.slice.now) c.args.e) n) (sym c.if-is_some.ensures) c.if-count-ge-ROOM.true in
     record { count = e.0; slice = e.1 }
 
 pub returns : goal.returns
@@ -24,5 +24,5 @@ returns g c =
     let m = g.R.OrderRule.meaning c.args.rule.now in
     let n : c.args.count - 0 ≡ c.args.count = omega arith in
     let e = enters-new (of_effects m) c.args.slice.now c.args.count c.args.e c.requires.room c.requires.few c.find.result
-    (c.find.ensures ∙ ap (λ k. place m.same 0 (take k c.args.slice.now) c.args.e) n) (sym c.if-is-some.ensures) c.if-count-ge-ROOM.false in
+    (c.find.ensures ∙ ap (λ k. place m.same 0 (take k c.args.slice.now) c.args.e) n) (sym c.if-is_some.ensures) c.if-count-ge-ROOM.false in
     record { count = e.0; slice = e.1 }

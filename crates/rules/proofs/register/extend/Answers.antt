@@ -13,16 +13,16 @@ enter-requires g c =
     let r = ready (g.R.OrderRule.meaning c.args.rule.now) (g.R.OrderRule.lawful c.args.rule.now) c.args.slice.now c.loop-c.slice c.loop-c.met _ _ c.requires.room c.loop-c.invariant in
     record { few = r.few; room = r.room; met = r.met; own = onward_own (g.R.OrderRule.meaning c.args.rule.now) (g.R.OrderRule.lawful c.args.rule.now) c.args.from c.loop-c.c c.in-Some.to c.requires.own c.in-Some.ensures }
 
-pub returns-in-err-met : goal.returns-in-err-met
-returns-in-err-met g c =
+pub returns-in_err-met : goal.returns-in_err-met
+returns-in_err-met g c =
     let a = rows-off (g.R.OrderRule.meaning c.args.rule.now) (g.R.OrderRule.lawful c.args.rule.now) c.args.slice.now c.loop-c.slice c.enter.new.slice c.loop-c.met c.loop-c.c c.args.from c.in-Some.to _
-    c.requires.room c.requires.own c.in-Some.ensures c.loop-c.invariant (sym c.in-err-met.was ∙ c.enter.ensures.count) c.enter.ensures.slice in
-    record { count = c.from-residual.ensures ∙ a.0; slice = a.1 }
+    c.requires.room c.requires.own c.in-Some.ensures c.loop-c.invariant (sym c.in_err-met.was ∙ c.enter.ensures.count) c.enter.ensures.slice in
+    record { count = c.from_residual.ensures ∙ a.0; slice = a.1 }
 
 pub loop-c-preserved : goal.loop-c-preserved
 loop-c-preserved g c =
     rows_more (g.R.OrderRule.meaning c.args.rule.now) (g.R.OrderRule.lawful c.args.rule.now) c.args.slice.now c.loop-c.slice c.enter.new.slice c.loop-c.met c.loop-c.c c.args.from c.in-Some.to _
-    c.requires.room c.requires.own c.in-Some.ensures c.loop-c.invariant c.in-ok-met.met (sym c.in-ok-met.was ∙ c.enter.ensures.count) c.enter.ensures.slice
+    c.requires.room c.requires.own c.in-Some.ensures c.loop-c.invariant c.in_ok-met.met (sym c.in_ok-met.was ∙ c.enter.ensures.count) c.enter.ensures.slice
 
 pub returns : goal.returns
 returns g c =

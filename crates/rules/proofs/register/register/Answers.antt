@@ -21,16 +21,16 @@ extend-requires g c =
       own = walks-own m law old c.loop-i.slice old c.loop-i.count c.loop-i.i c.index-slice-i.result _ room c.loop-i-test.true c.index-slice-i.is c.loop-i.invariant;
     }
 
-pub returns-in-err-count : goal.returns-in-err-count
-returns-in-err-count g c =
+pub returns-in_err-count : goal.returns-in_err-count
+returns-in_err-count g c =
     let m = g.R.OrderRule.meaning c.args.rule.now in
     let law = g.R.OrderRule.lawful c.args.rule.now in
     let xs = c.args.slice.now in
     let v = c.neutral.result in
     let a = walks-off m law (set xs 0 v) c.loop-i.slice c.extend.new.slice c.loop-i.count c.loop-i.i c.index-slice-i.result _ (room_kept xs v c.requires) c.loop-i-test.true c.index-slice-i.is c.loop-i.invariant
-    (sym c.in-err-count.was ∙ c.extend.ensures.count) c.extend.ensures.slice in
+    (sym c.in_err-count.was ∙ c.extend.ensures.count) c.extend.ensures.slice in
     let b = past_first m law xs c.extend.new.slice v _ a in
-    record { count = c.from-residual.ensures ∙ b.0; slice = b.1 }
+    record { count = c.from_residual.ensures ∙ b.0; slice = b.1 }
 
 pub loop-i-preserved : goal.loop-i-preserved
 loop-i-preserved g c =
@@ -38,7 +38,7 @@ loop-i-preserved g c =
     let v = c.neutral.result in
     walks_more (g.R.OrderRule.meaning c.args.rule.now) (g.R.OrderRule.lawful c.args.rule.now) (set xs 0 v) c.loop-i.slice c.extend.new.slice c.loop-i.count c.loop-i.i c.index-slice-i.result _
     (room_kept xs v c.requires) c.loop-i-test.true c.index-slice-i.is c.loop-i.invariant
-    c.in-ok-count.count (sym c.in-ok-count.was ∙ c.extend.ensures.count) c.extend.ensures.slice
+    c.in_ok-count.count (sym c.in_ok-count.was ∙ c.extend.ensures.count) c.extend.ensures.slice
 
 pub returns : goal.returns
 returns g c =

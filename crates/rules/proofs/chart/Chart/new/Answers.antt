@@ -5,13 +5,13 @@ use Rattle.rules.specs.ChartRecords.{Reads, drawn_finals}
 use Rattle.rules.proofs.Charting.{drawn_more, reads_formed, length_boxes, length_finals, charts}
 use Rattle.rules.proofs.chart.Chart.new.Goals as goal
 
-pub returns-in-default : goal.returns-in-default
-returns-in-default c =
+pub returns-in_default : goal.returns-in_default
+returns-in_default c =
     let at = 12 * c.loop-i.i in
     let n : at + 12 - at ≡ 12 = omega arith in (
       (c.if-bytes-ne0.false, omega arith),
       c.loop-i-test.true,
-      subst (λ k. Formed (take k (drop at c.args.bytes.now)) → ⊥) n c.in-default.ensures,
+      subst (λ k. Formed (take k (drop at c.args.bytes.now)) → ⊥) n c.in_default.ensures,
       c.loop-i.invariant.1,
     )
 
@@ -22,8 +22,8 @@ loop-i-preserved c =
     let item = c.in-Some.item in
     let bytes = c.args.bytes.now in
     let read : Reads (record_at bytes c.loop-i.i) item = subst (λ k. Reads (take k (drop at bytes)) item) n c.in-Some.ensures in
-    let boxes = c.loop-i.chart.0 in
-    let finals = c.loop-i.chart.1.0 in
+    let boxes = c.loop-i.chart.boxes in
+    let finals = c.loop-i.chart.finals in
     let inv = c.loop-i.invariant in (
       subst (λ f. Drawn bytes (c.loop-i.i + 1) c.draw.new.self.boxes f) (sym c.draw.ensures.finals)
           (subst (λ b. Drawn bytes (c.loop-i.i + 1) b (drawn_finals item finals)) (sym c.draw.ensures.boxes) (drawn_more bytes c.loop-i.i boxes finals item inv.3 inv.4 read inv.0)),
@@ -39,5 +39,5 @@ returns c =
     let e : c.loop-i.i ≡ length bytes / 12 = omega arith in
     let inv = c.loop-i.invariant in (
       ((c.if-bytes-ne0.false, omega arith), λ i h. inv.1 i (omega arith)),
-      charts bytes c.loop-i.chart.0 c.loop-i.chart.1.0 inv.2 (subst (λ n. Drawn bytes n c.loop-i.chart.0 c.loop-i.chart.1.0) e inv.0),
+      charts bytes c.loop-i.chart.boxes c.loop-i.chart.finals inv.2 (subst (λ n. Drawn bytes n c.loop-i.chart.boxes c.loop-i.chart.finals) e inv.0),
     )

@@ -12,7 +12,7 @@ returns-then-permitted-modulus-ne0 c =
     record {
       made = (
         (omega arith, omega arith),
-        (omega (arith, eqb-false (length c.args.weights.now) 0 (sym c.if-is-empty.ensures)), few),
+        (omega (arith, eqb-false (length c.args.weights.now) 0 (sym c.if-is_empty.ensures)), few),
         (λ i h. c.loop-i.invariant i (omega arith)),
         shift_from_masks c.args.modulus c.args.permitted c.if-permitted-modulus-ne0.true,
       );
@@ -31,7 +31,7 @@ returns c =
       made = (
         (
           (omega arith, omega arith),
-          (omega (arith, eqb-false (length c.args.weights.now) 0 (sym c.if-is-empty.ensures)), few),
+          (omega (arith, eqb-false (length c.args.weights.now) 0 (sym c.if-is_empty.ensures)), few),
           (λ i h. c.loop-i.invariant i (omega arith)),
           masks,
         ),

@@ -4,8 +4,8 @@ use Rattle.rules.proofs.Tabling.{met_few, listed_read, listed_own, member_more, 
 use Rattle.rules.proofs.table.making.breaking_set.Goals as goal
 use Rattle.rules.proofs.table.making.breaking_set.Goals.{then-breaks, else-breaks}
 
-pub overflow-cast-i : goal.overflow-cast-i
-overflow-cast-i g c = omega (arith, met_few (g.R.OrderRule.meaning c.args.rule.now) (g.R.OrderRule.lawful c.args.rule.now) c.args.met.now c.requires)
+pub overflow_cast-i : goal.overflow_cast-i
+overflow_cast-i g c = omega (arith, met_few (g.R.OrderRule.meaning c.args.rule.now) (g.R.OrderRule.lawful c.args.rule.now) c.args.met.now c.requires)
 
 pub loop-i-preserved : goal.loop-i-preserved
 loop-i-preserved g c =

@@ -5,8 +5,8 @@ use Rattle.rules.specs.Tables.{numbered}
 use Rattle.rules.proofs.Tabling.{met_few, met_own, listed_read, listed_found, listed_join, listed_own, listed-known, filled_more}
 use Rattle.rules.proofs.table.making.join_each.Goals as goal
 
-pub number-of-requires : goal.number-of-requires
-number-of-requires g c =
+pub number_of-requires : goal.number_of-requires
+number_of-requires g c =
     let m = g.R.OrderRule.meaning c.args.rule.now in
     let law = g.R.OrderRule.lawful c.args.rule.now in
     let met = c.args.met.now in
@@ -34,9 +34,9 @@ loop-j-preserved g c =
     let b = c.index-met-j.result in
     let y = listed_read m law met c.requires.all j b c.loop-j-test.true c.index-met-j.is in
     let is : c.join.result ≡ m.join c.args.a b = c.join.ensures c.requires.own (listed_own m law met c.requires.all b y) in (
-      length-set c.loop-j.row j c.number-of.result ∙ c.loop-j.invariant.0,
-      filled_more (λ e. numbered m.same met (m.join c.args.a e)) met c.loop-j.row j b c.number-of.result c.loop-j-test.true
-          (omega (arith, c.loop-j.invariant.0, met_few m law met c.requires.all)) c.index-met-j.is (c.number-of.ensures ∙ ap (numbered m.same met) is) c.loop-j.invariant.1,
+      length-set c.loop-j.row j c.number_of.result ∙ c.loop-j.invariant.0,
+      filled_more (λ e. numbered m.same met (m.join c.args.a e)) met c.loop-j.row j b c.number_of.result c.loop-j-test.true
+          (omega (arith, c.loop-j.invariant.0, met_few m law met c.requires.all)) c.index-met-j.is (c.number_of.ensures ∙ ap (numbered m.same met) is) c.loop-j.invariant.1,
     )
 
 pub returns : goal.returns

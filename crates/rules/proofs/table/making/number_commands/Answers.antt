@@ -1,4 +1,4 @@
-use Rattle.std.proofs.Common.{◌≡◌, ℕ, ◌+◌, true, ltb, [], ◌∷◌, ◌++◌, map, length, is_some, sym, ap, ◌∙◌, subst, arith}
+use Rattle.std.proofs.Common.{◌≡◌, ℕ, true, ltb, [], ◌∷◌, ◌++◌, map, length, is_some, sym, ap, ◌∙◌, subst, arith}
 use Rattle.std.specs.List.{range_with_len}
 use Rattle.std.proofs.lemmas.List.FromFn.{length-map-range_with_len, map-range_with_len_more}
 use Rattle.std.proofs.lemmas.Bool.{cond-true, lt-ltb}
@@ -9,8 +9,8 @@ use Rattle.rules.proofs.Judging.{known_command}
 use Rattle.rules.proofs.Tabling.{met_few, met_own, listed_command, listed_own, listed-known}
 use Rattle.rules.proofs.table.making.number_commands.Goals as goal
 
-pub number-of-requires : goal.number-of-requires
-number-of-requires g c =
+pub number_of-requires : goal.number_of-requires
+number_of-requires g c =
     let m = g.R.OrderRule.meaning c.args.rule.now in
     let law = g.R.OrderRule.lawful c.args.rule.now in
     let met = c.args.met.now in
@@ -35,7 +35,7 @@ loop-c-preserved g c =
     let size : length (items c.loop-c.numbers) ≡ i = ap length c.loop-c.invariant ∙ length-map-range_with_len f 0 i in
     let room : ltb (length (items c.loop-c.numbers)) 16 ≡ true = lt-ltb (length (items c.loop-c.numbers)) 16 (omega (arith, k.0, law.few)) in
     c.push.ensures.items
-    ∙ cond-true (ltb (length (items c.loop-c.numbers)) 16) (items c.loop-c.numbers ++ c.number-of.result ∷ []) (items c.loop-c.numbers) room
-    ∙ ap (λ xs. xs ++ c.number-of.result ∷ []) c.loop-c.invariant
-    ∙ ap (λ x. map f (range_with_len 0 i) ++ x ∷ []) (c.number-of.ensures ∙ ap (numbered m.same met) k.1)
+    ∙ cond-true (ltb (length (items c.loop-c.numbers)) 16) (items c.loop-c.numbers ++ c.number_of.result ∷ []) (items c.loop-c.numbers) room
+    ∙ ap (λ xs. xs ++ c.number_of.result ∷ []) c.loop-c.invariant
+    ∙ ap (λ x. map f (range_with_len 0 i) ++ x ∷ []) (c.number_of.ensures ∙ ap (numbered m.same met) k.1)
     ∙ sym (map-range_with_len_more f 0 i i (omega arith))
