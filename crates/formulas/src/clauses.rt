@@ -1,11 +1,12 @@
 //! Clauses as they gather: smallest ones in rising order.
-ghost use Rattle.std.specs.Prelude.{◌≡◌, true};
+ghost use Rattle.std.specs.Prelude.{◌≡◌, true, ⊤};
 ghost use Rattle.std.specs.List.Sorted.{IsStrictlyIncreasing};
 ghost use Rattle.formulas.specs.Formulas.{none_within};
 ghost use Rattle.formulas.specs.Masks.{held};
 
 use foundation::bounded::Bounded;
 use foundation::effect_set::EffectSet;
+use std::alloc::AllocError;
 
 mod offering;
 

@@ -1,8 +1,9 @@
 //! Formulas: which sets of effects the field can force, by choices of both sides.
-ghost use Rattle.std.specs.Prelude.{◌≤◌, length};
+ghost use Rattle.std.specs.Prelude.{◌≡◌, ◌≤◌, length, ⊤};
 ghost use Rattle.formulas.specs.Clauses.{clause_list};
 
 use crate::clauses::Clauses;
+use std::alloc::AllocError;
 
 mod operations;
 mod shifting;

@@ -1,5 +1,5 @@
 //! Procedure sets: the records of all procedures, by number.
-ghost use Rattle.std.specs.Prelude.{◌≡◌, ◌<◌, true, map, length};
+ghost use Rattle.std.specs.Prelude.{◌≡◌, ◌<◌, true, map, length, ⊤};
 ghost use Rattle.foundation.specs.Bounds.{items};
 ghost use Rattle.foundation.specs.Tests.{all};
 ghost use Rattle.formulas.specs.Checks.{agreed, bodied};
@@ -7,6 +7,7 @@ ghost use Rattle.formulas.specs.Entries.{entry_of};
 
 use crate::record::Record;
 use foundation::bounded::Bounded;
+use std::alloc::AllocError;
 
 mod lookup;
 mod reading;

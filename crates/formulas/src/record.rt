@@ -1,11 +1,12 @@
 //! Records: one body of a procedure, and the side that the procedure belongs to.
-ghost use Rattle.std.specs.Prelude.{◌≡◌, ◌<◌, true};
+ghost use Rattle.std.specs.Prelude.{◌≡◌, ◌<◌, true, ⊤};
 ghost use Rattle.foundation.specs.Bounds.{items};
 ghost use Rattle.foundation.specs.Tests.{all};
 ghost use Rattle.formulas.specs.Symbols.{proper};
 
 use crate::symbol::{Owner, Procedure, Symbol};
 use foundation::bounded::Bounded;
+use std::alloc::AllocError;
 
 mod reading;
 

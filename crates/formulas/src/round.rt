@@ -1,7 +1,8 @@
 //! Rounds: a formula for each procedure.
-ghost use Rattle.std.specs.Prelude.{◌≡◌, length};
+ghost use Rattle.std.specs.Prelude.{◌≡◌, length, ⊤};
 
 use crate::formula::Formula;
+use std::alloc::AllocError;
 
 mod bodies;
 mod comparing;

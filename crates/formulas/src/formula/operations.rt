@@ -1,10 +1,12 @@
 //! "And" and "or" of formulas, and the two simplest ones.
-ghost use Rattle.std.specs.Prelude.{◌≡◌, IfOk};
+ghost use Rattle.std.specs.Prelude.{◌≡◌, IfOk, nat_eq};
 ghost use Rattle.formulas.specs.Formulas.{both, either, impossible, neutral};
 ghost use Rattle.formulas.specs.FormulaViews.{formula_list, found, And, Or, ToldApart};
 ghost use Rattle.formulas.specs.Masks.{masks};
 ghost use Rattle.std.specs.Cmp.Rules.{comparing};
-ghost use Rattle.std.proofs.Common.{rules, arith};
+ghost use Rattle.std.specs.Cmp.Lexicographic.{pointwise};
+ghost use Rattle.std.specs.Ordering.{on};
+ghost use Rattle.std.proofs.Common.{rules};
 
 use crate::clauses::Clauses;
 use crate::fault::Overflow;
@@ -73,11 +75,14 @@ impl Formula {
 
 /// Formulas are equal exactly where they meet the same sets.
 impl PartialEq for Formula {
-    ghost equals = { λ a b r. ToldApart (formula_list a) (formula_list b) r };
+    ghost eq = { on formula_list (pointwise nat_eq) };
 
-    ghost laws = { first_of (Prim.search (comparing, rules), Prim.grind (arith, Self.row.coded.inj)) };
+    ghost laws = { Prim.search (comparing, rules) };
 
-    fn eq(&self, other: &Formula) -> bool {
+    fn eq(&self, other: &Formula) -> bool
+        ensures value { result ≡ on formula_list (pointwise nat_eq) self.now other.now }
+        ensures told { ToldApart (formula_list self.now) (formula_list other.now) result }
+    {
         self.clauses() == other.clauses()
     }
 }

@@ -5,11 +5,11 @@ use Rattle.formulas.proofs.solution.all_known.Goals as goal
 
 pub loop-symbol-preserved : goal.loop-symbol-preserved
 loop-symbol-preserved c =
-    passing_more (known c.args.commands) c.args.body.now c.loop-symbol.symbol-index _ _ c.loop-symbol-test.true refl (sym c.if-not-is-known.ensures) c.loop-symbol.invariant
+    passing_more (known c.args.commands) c.args.body.now c.loop-symbol.symbol-index _ _ c.loop-symbol-test.true refl (sym c.if-not-is_known.ensures) c.loop-symbol.invariant
 
-pub returns-then-not-is-known : goal.returns-then-not-is-known
-returns-then-not-is-known c =
-    passing_stop (known c.args.commands) c.args.body.now c.loop-symbol.symbol-index _ _ c.loop-symbol-test.true refl (sym c.if-not-is-known.ensures) c.loop-symbol.invariant
+pub returns-then-not-is_known : goal.returns-then-not-is_known
+returns-then-not-is_known c =
+    passing_stop (known c.args.commands) c.args.body.now c.loop-symbol.symbol-index _ _ c.loop-symbol-test.true refl (sym c.if-not-is_known.ensures) c.loop-symbol.invariant
 
 pub returns : goal.returns
 returns c = passing_end (known c.args.commands) c.args.body.now c.loop-symbol.symbol-index c.loop-symbol-test.false c.loop-symbol.invariant

@@ -13,22 +13,22 @@ loop-done-init c =
     let n : c.args.allowance - 0 ≡ c.args.allowance = omega arith in
     ap₂ (λ n L. settle (entries c.args.set.now) (view c.args.table.now) n 0 L) n c.first-round.ensures
 
-pub returns-in-err-next : goal.returns-in-err-next
-returns-in-err-next c =
-    let p = err_from_is_err_and c.from-residual.result c.from-residual.ensures.1 in
+pub returns-in_err-next : goal.returns-in_err-next
+returns-in_err-next c =
+    let p = err_from_is_err_and c.from_residual.result c.from_residual.ensures.1 in
     ap solution_viewed (p.1 ∙ ap Err p.2)
     ∙ sym (sym c.loop-done.invariant ∙ settle_off (entries c.args.set.now) (view c.args.table.now) c.args.allowance c.loop-done.done (formulas_of c.loop-done.round) c.loop-done-test.true
-    c.in-err-next.field-0.0 c.in-err-next.ensures)
+    c.in_err-next.field-0.0 c.in_err-next.ensures)
 
 pub returns-then-equals : goal.returns-then-equals
 returns-then-equals c =
     sym (sym c.loop-done.invariant ∙ settle-here (entries c.args.set.now) (view c.args.table.now) c.args.allowance c.loop-done.done (formulas_of c.loop-done.round) c.loop-done-test.true
-    (formulas_of c.in-ok-next.next) c.in-ok-next.ensures c.if-equals.ensures)
+    (formulas_of c.in_ok-next.next) c.in_ok-next.ensures c.if-equals.ensures)
 
 pub loop-done-preserved : goal.loop-done-preserved
 loop-done-preserved c =
     sym (settle-more (entries c.args.set.now) (view c.args.table.now) c.args.allowance c.loop-done.done (formulas_of c.loop-done.round) c.loop-done-test.true
-    (formulas_of c.in-ok-next.next) c.in-ok-next.ensures c.if-equals.ensures) ∙ c.loop-done.invariant
+    (formulas_of c.in_ok-next.next) c.in_ok-next.ensures c.if-equals.ensures) ∙ c.loop-done.invariant
 
 pub returns : goal.returns
 returns c =

@@ -13,7 +13,7 @@ loop-i-init g c = (omega arith, winning_end (view c.args.table.now) (assigned (g
 pub loop-i-preserved : goal.loop-i-preserved
 loop-i-preserved g c = (
   omega (arith, c.loop-i.invariant.0),
-  c.before-symbol-winning.ensures ∙ winning_more (view c.args.table.now) (assigned (g.L.ClauseLists.lists c.args.lists.now)) c.args.target.bits c.args.list.now c.loop-i.i _ c.loop-i.winning.bits
+  c.before_symbol-winning.ensures ∙ winning_more (view c.args.table.now) (assigned (g.L.ClauseLists.lists c.args.lists.now)) c.args.target.bits c.args.list.now c.loop-i.i _ c.loop-i.winning.bits
       (omega (arith, c.loop-i-test.true)) c.loop-i.invariant.0 c.loop-i.invariant.1,
 )
 

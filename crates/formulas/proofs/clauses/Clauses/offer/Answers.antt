@@ -8,14 +8,14 @@ use Rattle.formulas.proofs.clauses.Clauses.offer.Goals as goal
 pub entered-requires : goal.entered-requires
 entered-requires c = omega (arith, c.in-At.ensures.within_list, length_held c.args.self.now.sets)
 
-pub returns-in-default : goal.returns-in-default
-returns-in-default c = record { value = (offer-full c.args.c.bits (clause_list c.args.self.now) c.in-At.at c.in-At.ensures c.in-default.ensures, refl); means = tt; smallest = tt }
+pub returns-in_default : goal.returns-in_default
+returns-in_default c = record { value = (offer-full c.args.c.bits (clause_list c.args.self.now) c.in-At.at c.in-At.ensures c.in_default.ensures, refl); means = tt; smallest = tt }
 
-pub invariant-of-self : goal.invariant-of-self
-invariant-of-self c =
+pub invariant_of-self : goal.invariant_of-self
+invariant_of-self c =
     let old = c.args.self.now in
     let n = entered-form c.args.c.bits (clause_list old) c.in-At.at c.in-At.ensures (test_normal (clause_list old) old.rising old.apart) c.in-Some.sets c.in-Some.ensures in
-    (n.rising, (normal_test (held c.in-Some.sets) n, tt))
+    record { rising = n.rising; apart = normal_test (held c.in-Some.sets) n }
 
 pub returns-in-Held : goal.returns-in-Held
 returns-in-Held c =

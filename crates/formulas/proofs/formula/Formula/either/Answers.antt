@@ -8,7 +8,7 @@ use Rattle.formulas.proofs.Given.{given_some}
 use Rattle.formulas.proofs.Meets.{either_meets}
 use Rattle.formulas.proofs.Offers.{row_from, row_end, unions_from, unions_end, offers_some, unions-some}
 use Rattle.formulas.proofs.formula.Formula.either.Goals as goal
-use Rattle.formulas.proofs.formula.Formula.either.Goals.{else-unions-test, then-unions-test+then-loop-l-test+in-default, Else-full}
+use Rattle.formulas.proofs.formula.Formula.either.Goals.{else-unions-test, then-unions-test+then-loop-l-test+in_default, Else-full}
 
 pub loop-l-preserved : goal.loop-l-preserved
 loop-l-preserved c =
@@ -39,14 +39,14 @@ made c =
     ∙ elim c.unions-test.branch [
       | else-unions-test w ↦
           sym c.unions.invariant.1 ∙ unions_end 64 (clause_list c.unions.clauses) xs (masks ys) c.unions.k-index w.unions-test.false ∙ ap (λ o. Some (clause_list o)) (sym w.clauses-is)
-      | then-unions-test+then-loop-l-test+in-default w ↦ absurd (both_ways c.unions-test.full c.if-full.false w.full-is)
+      | then-unions-test+then-loop-l-test+in_default w ↦ absurd (both_ways c.unions-test.full c.if-full.false w.full-is)
     ]
 
-pub invariant-of-result : goal.invariant-of-result
-invariant-of-result c =
+pub invariant_of-result : goal.invariant_of-result
+invariant_of-result c =
     let F = formula_list c.args.self.now in
     let G = formula_list c.args.other.now in
-    (given_some (offers 64 [] (unions F G)) (λ R. 1 ≤ length R) (clause_list c.unions-test.clauses) (offers_some 64 [] (unions F G) (omega (arith, unions-some F G c.args.self.now.some c.args.other.now.some))) (made c), tt)
+    record { some = given_some (offers 64 [] (unions F G)) (λ R. 1 ≤ length R) (clause_list c.unions-test.clauses) (offers_some 64 [] (unions F G) (omega (arith, unions-some F G c.args.self.now.some c.args.other.now.some))) (made c) }
 
 pub returns-then-full : goal.returns-then-full
 returns-then-full c =
@@ -56,12 +56,12 @@ returns-then-full c =
       value = sym (ap₂ (λ F G. offers 64 [] (unions F G)) (sym c.clauses-ours.ensures) (sym c.clauses-theirs.ensures)
           ∙ elim c.unions-test.branch [
             | else-unions-test w ↦ absurd (both_ways c.unions.full c.unions.invariant.0 (sym w.full-is ∙ c.if-full.true))
-            | then-unions-test+then-loop-l-test+in-default w ↦
+            | then-unions-test+then-loop-l-test+in_default w ↦
                 let k = (get_or xs c.unions.k-index (record { bits = 0 })).bits in
                 let old = clause_list w.loop-l.clauses in
                 sym c.unions.invariant.1
                 ∙ unions_from 64 (clause_list c.unions.clauses) xs (masks ys) c.unions.k-index None w.unions-test.true
-                (sym w.loop-l.invariant.1 ∙ row_from 64 old k ys w.loop-l.l-index None w.loop-l-test.true (ap (λ C. offer 64 C old) (sym w.union.ensures.value) ∙ w.in-default.ensures.value.0))
+                (sym w.loop-l.invariant.1 ∙ row_from 64 old k ys w.loop-l.l-index None w.loop-l-test.true (ap (λ C. offer 64 C old) (sym w.union.ensures.value) ∙ w.in_default.ensures.value.0))
           ]);
       means = tt;
     }

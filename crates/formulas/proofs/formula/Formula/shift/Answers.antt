@@ -11,17 +11,17 @@ use Rattle.formulas.proofs.Shifting.{shift_from, shift_end, err_found, err_means
 use Rattle.formulas.proofs.formula.Formula.shift.Goals as goal
 use Rattle.formulas.proofs.formula.Formula.shift.Goals.{After-loop-clause}
 
-pub returns-in-err-offer : goal.returns-in-err-offer
-returns-in-err-offer c =
+pub returns-in_err-offer : goal.returns-in_err-offer
+returns-in_err-offer c =
     let t = view c.args.table.now in
     let e = c.args.e in
     let old = clause_list c.loop-clause.clauses in
-    let bad = c.from-residual.ensures.0 in
+    let bad = c.from_residual.ensures.0 in
     record {
-      value = err_found c.from-residual.result bad
+      value = err_found c.from_residual.result bad
           ∙ sym (ap (λ F. offers 64 [] (map (joined t e) F)) (sym c.clauses-clause-items.ensures) ∙ sym c.loop-clause.invariant
-          ∙ shift_from 64 t [] e old c.clauses-clause-items.result.now c.loop-clause.clause-index None c.loop-clause-test.true (ap (λ C. offer 64 C old) (sym c.joins.ensures) ∙ c.in-err-offer.ensures.value.0));
-      means = err_means c.from-residual.result _ bad;
+          ∙ shift_from 64 t [] e old c.clauses-clause-items.result.now c.loop-clause.clause-index None c.loop-clause-test.true (ap (λ C. offer 64 C old) (sym c.joins.ensures) ∙ c.in_err-offer.ensures.value.0));
+      means = err_means c.from_residual.result _ bad;
     }
 
 pub loop-clause-preserved : goal.loop-clause-preserved
@@ -29,7 +29,7 @@ loop-clause-preserved c =
     let t = view c.args.table.now in
     let old = clause_list c.loop-clause.clauses in
     sym (shift_from 64 t [] c.args.e old c.clauses-clause-items.result.now c.loop-clause.clause-index (Some (clause_list c.offer.new.self)) c.loop-clause-test.true
-    (ap (λ C. offer 64 C old) (sym c.joins.ensures) ∙ c.in-ok-offer.ensures.value)) ∙ c.loop-clause.invariant
+    (ap (λ C. offer 64 C old) (sym c.joins.ensures) ∙ c.in_ok-offer.ensures.value)) ∙ c.loop-clause.invariant
 
 made : (c : goal.After-loop-clause) → offers 64 [] (map (joined (view c.args.table.now) c.args.e) (formula_list c.args.self.now)) ≡ Some (clause_list c.loop-clause.clauses)
 made c =
@@ -37,11 +37,11 @@ made c =
     ap (λ F. offers 64 [] (map (joined t c.args.e) F)) (sym c.clauses-clause-items.ensures) ∙ sym c.loop-clause.invariant
     ∙ shift_end 64 t [] c.args.e (clause_list c.loop-clause.clauses) c.clauses-clause-items.result.now c.loop-clause.clause-index c.loop-clause-test.false
 
-pub invariant-of-result : goal.invariant-of-result
-invariant-of-result c =
+pub invariant_of-result : goal.invariant_of-result
+invariant_of-result c =
     let F = formula_list c.args.self.now in
     let Cs = map (joined (view c.args.table.now) c.args.e) F in
-    (given_some (offers 64 [] Cs) (λ R. 1 ≤ length R) (clause_list c.loop-clause.clauses) (offers_some 64 [] Cs (omega (arith, length-map F (joined (view c.args.table.now) c.args.e), c.args.self.now.some))) (made c), tt)
+    record { some = given_some (offers 64 [] Cs) (λ R. 1 ≤ length R) (clause_list c.loop-clause.clauses) (offers_some 64 [] Cs (omega (arith, length-map F (joined (view c.args.table.now) c.args.e), c.args.self.now.some))) (made c) }
 
 pub returns : goal.returns
 returns c =

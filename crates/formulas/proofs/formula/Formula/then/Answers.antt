@@ -12,30 +12,30 @@ use Rattle.formulas.proofs.Shifting.{and_from, and_more, and_end, err_found, err
 use Rattle.formulas.proofs.formula.Formula.then.Goals as goal
 use Rattle.formulas.proofs.formula.Formula.then.Goals.{After-loop-effects}
 
-pub returns-in-err-after : goal.returns-in-err-after
-returns-in-err-after c =
+pub returns-in_err-after : goal.returns-in_err-after
+returns-in_err-after c =
     let t = view c.args.table.now in
     let G = formula_list c.args.next.now in
-    let bad = c.from-residual.ensures.0 in
+    let bad = c.from_residual.ensures.0 in
     record {
-      value = err_found c.from-residual.result bad
+      value = err_found c.from_residual.result bad
           ∙ sym (ap (and-after 64 t G []) (sym c.clauses-effects-items.ensures) ∙ sym c.loop-effects.invariant.0
-          ∙ and_from 64 t G (clause_list c.loop-effects.clauses) c.clauses-effects-items.result.now c.loop-effects.effects-index None c.loop-effects-test.true (sym c.in-err-after.ensures));
-      means = err_means c.from-residual.result _ bad;
+          ∙ and_from 64 t G (clause_list c.loop-effects.clauses) c.clauses-effects-items.result.now c.loop-effects.effects-index None c.loop-effects-test.true (sym c.in_err-after.ensures));
+      means = err_means c.from_residual.result _ bad;
     }
 
-pub returns-in-err-offer-all : goal.returns-in-err-offer-all
-returns-in-err-offer-all c =
+pub returns-in_err-offer_all : goal.returns-in_err-offer_all
+returns-in_err-offer_all c =
     let t = view c.args.table.now in
     let G = formula_list c.args.next.now in
-    let bad = c.from-residual-in-err-offer-all.ensures.0 in
+    let bad = c.from_residual-in_err-offer_all.ensures.0 in
     let R = clause_list c.loop-effects.clauses in
     record {
-      value = err_found c.from-residual-in-err-offer-all.result bad
+      value = err_found c.from_residual-in_err-offer_all.result bad
           ∙ sym (ap (and-after 64 t G []) (sym c.clauses-effects-items.ensures) ∙ sym c.loop-effects.invariant.0
-          ∙ and_more 64 t G R c.clauses-effects-items.result.now c.loop-effects.effects-index (formula_list c.in-ok-after.after) c.loop-effects-test.true (sym c.in-ok-after.ensures) None
-          (ap (offers 64 R) (sym c.clauses.ensures) ∙ c.in-err-offer-all.ensures));
-      means = err_means c.from-residual-in-err-offer-all.result _ bad;
+          ∙ and_more 64 t G R c.clauses-effects-items.result.now c.loop-effects.effects-index (formula_list c.in_ok-after.after) c.loop-effects-test.true (sym c.in_ok-after.ensures) None
+          (ap (offers 64 R) (sym c.clauses.ensures) ∙ c.in_err-offer_all.ensures));
+      means = err_means c.from_residual-in_err-offer_all.result _ bad;
     }
 
 pub loop-effects-preserved : goal.loop-effects-preserved
@@ -43,11 +43,11 @@ loop-effects-preserved c =
     let t = view c.args.table.now in
     let G = formula_list c.args.next.now in
     let R = clause_list c.loop-effects.clauses in
-    let T = formula_list c.in-ok-after.after in
-    let made : offers 64 R T ≡ Some (clause_list c.offer_all_lem.new.self) = ap (offers 64 R) (sym c.clauses.ensures) ∙ c.in-ok-offer-all.ensures in (
-      sym (and_more 64 t G R c.clauses-effects-items.result.now c.loop-effects.effects-index T c.loop-effects-test.true (sym c.in-ok-after.ensures) (Some (clause_list c.offer_all_lem.new.self)) made)
+    let T = formula_list c.in_ok-after.after in
+    let made : offers 64 R T ≡ Some (clause_list c.offer_all.new.self) = ap (offers 64 R) (sym c.clauses.ensures) ∙ c.in_ok-offer_all.ensures in (
+      sym (and_more 64 t G R c.clauses-effects-items.result.now c.loop-effects.effects-index T c.loop-effects-test.true (sym c.in_ok-after.ensures) (Some (clause_list c.offer_all.new.self)) made)
           ∙ c.loop-effects.invariant.0,
-      λ _. given_some (offers 64 R T) (λ S. 1 ≤ length S) (clause_list c.offer_all_lem.new.self) (offers_some 64 R T (omega (arith, c.in-ok-after.after.some))) made,
+      λ _. given_some (offers 64 R T) (λ S. 1 ≤ length S) (clause_list c.offer_all.new.self) (offers_some 64 R T (omega (arith, c.in_ok-after.after.some))) made,
     )
 
 made : (c : goal.After-loop-effects) → then 64 (view c.args.table.now) (formula_list c.args.self.now) (formula_list c.args.next.now) ≡ Some (clause_list c.loop-effects.clauses)
@@ -57,10 +57,10 @@ made c =
     ap (and-after 64 t G []) (sym c.clauses-effects-items.ensures) ∙ sym c.loop-effects.invariant.0
     ∙ and_end 64 t G (clause_list c.loop-effects.clauses) c.clauses-effects-items.result.now c.loop-effects.effects-index c.loop-effects-test.false
 
-pub invariant-of-result : goal.invariant-of-result
-invariant-of-result c =
+pub invariant_of-result : goal.invariant_of-result
+invariant_of-result c =
     let xs = c.clauses-effects-items.result.now in
-    (c.loop-effects.invariant.1 (omega (arith, c.loop-effects-test.false, ap length c.clauses-effects-items.ensures, length-map xs mask, c.args.self.now.some)), tt)
+    record { some = c.loop-effects.invariant.1 (omega (arith, c.loop-effects-test.false, ap length c.clauses-effects-items.ensures, length-map xs mask, c.args.self.now.some)) }
 
 pub returns : goal.returns
 returns c =

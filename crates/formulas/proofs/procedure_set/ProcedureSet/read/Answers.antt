@@ -8,42 +8,42 @@ use Rattle.formulas.proofs.InWords.{refused_early, refused-owner, refused-body, 
 use Rattle.formulas.proofs.OneAnswer.{read_fixes}
 use Rattle.formulas.proofs.procedure_set.ProcedureSet.read.Goals as goal
 
-pub returns-in-err-records : goal.returns-in-err-records
-returns-in-err-records c =
-    let p = err_from_is_err_and c.from-residual.result c.from-residual.ensures.1 in
-    let a = refused_early c.args.bytes.now (viewed c.from-residual.result) c.in-err-records.field-0.0 (ap viewed (p.1 ∙ ap Err p.2)) c.in-err-records.ensures in
+pub returns-in_err-records : goal.returns-in_err-records
+returns-in_err-records c =
+    let p = err_from_is_err_and c.from_residual.result c.from_residual.ensures.1 in
+    let a = refused_early c.args.bytes.now (viewed c.from_residual.result) c.in_err-records.field-0.0 (ap viewed (p.1 ∙ ap Err p.2)) c.in_err-records.ensures in
     record { value = a.value; words = a.words; only = λ x h. read_fixes c.args.bytes.now x h ∙ sym a.value }
 
 pub returns-in-Some : goal.returns-in-Some
 returns-in-Some c =
-    let a = refused-owner c.args.bytes.now (map entry_of (items c.in-ok-records.records)) (map entry_of c.as-slice.result.now) c.in-ok-records.ensures
-    c.in-Some.i (ap (map entry_of) c.as-slice.ensures) c.in-Some.ensures in
+    let a = refused-owner c.args.bytes.now (map entry_of (items c.in_ok-records.records)) (map entry_of c.as_slice.result.now) c.in_ok-records.ensures
+    c.in-Some.i (ap (map entry_of) c.as_slice.ensures) c.in-Some.ensures in
     record { value = a.value; words = a.words; only = λ x h. read_fixes c.args.bytes.now x h ∙ sym a.value }
 
-pub returns-in-Some-first-unrecorded : goal.returns-in-Some-first-unrecorded
-returns-in-Some-first-unrecorded c =
-    let a = refused-body c.args.bytes.now (map entry_of (items c.in-ok-records.records)) (map entry_of c.as-slice.result.now) c.in-ok-records.ensures
-    (map entry_of c.as-slice-2.result.now) (ap (map entry_of) c.as-slice.ensures) (ap (map entry_of) c.as-slice-2.ensures) c.in-default.ensures
-    c.in-Some-first-unrecorded.i c.in-Some-first-unrecorded.ensures in
+pub returns-in-Some-first_unrecorded : goal.returns-in-Some-first_unrecorded
+returns-in-Some-first_unrecorded c =
+    let a = refused-body c.args.bytes.now (map entry_of (items c.in_ok-records.records)) (map entry_of c.as_slice.result.now) c.in_ok-records.ensures
+    (map entry_of c.as_slice-2.result.now) (ap (map entry_of) c.as_slice.ensures) (ap (map entry_of) c.as_slice-2.ensures) c.in_default.ensures
+    c.in-Some-first_unrecorded.i c.in-Some-first_unrecorded.ensures in
     record { value = a.value; words = a.words; only = λ x h. read_fixes c.args.bytes.now x h ∙ sym a.value }
 
-pub invariant-of-result : goal.invariant-of-result
-invariant-of-result c =
+pub invariant_of-result : goal.invariant_of-result
+invariant_of-result c =
     let bytes = c.args.bytes.now in
-    let list = items c.in-ok-records.records in
+    let list = items c.in_ok-records.records in
     let rs = map entry_of list in
-    let part = map entry_of c.as-slice.result.now in
-    let part' = map entry_of c.as-slice-2.result.now in
-    let ok = c.in-ok-records.ensures in
-    let e = ap (map entry_of) c.as-slice.ensures in
-    let e' = ap (map entry_of) c.as-slice-2.ensures in
-    let agree = c.in-default.ensures in
+    let part = map entry_of c.as_slice.result.now in
+    let part' = map entry_of c.as_slice-2.result.now in
+    let ok = c.in_ok-records.ensures in
+    let e = ap (map entry_of) c.as_slice.ensures in
+    let e' = ap (map entry_of) c.as_slice-2.ensures in
+    let agree = c.in_default.ensures in
     let some : 0 < length list = omega (arith, set-some bytes rs part ok part' e e' agree, length-map list entry_of) in
-    (some, (set-agreed bytes rs part ok part' e e' agree, (set-bodied bytes rs part ok part' e e' agree c.in-default-first-unrecorded.ensures, tt)))
+    record { some = some; agree = set-agreed bytes rs part ok part' e e' agree; named = set-bodied bytes rs part ok part' e e' agree c.in_default-first_unrecorded.ensures }
 
 pub returns : goal.returns
 returns c =
-    let a = set-is-read c.args.bytes.now (map entry_of (items c.in-ok-records.records)) (map entry_of c.as-slice.result.now) c.in-ok-records.ensures
-    (map entry_of c.as-slice-2.result.now) (ap (map entry_of) c.as-slice.ensures) (ap (map entry_of) c.as-slice-2.ensures) c.in-default.ensures
-    c.in-default-first-unrecorded.ensures in
+    let a = set-is-read c.args.bytes.now (map entry_of (items c.in_ok-records.records)) (map entry_of c.as_slice.result.now) c.in_ok-records.ensures
+    (map entry_of c.as_slice-2.result.now) (ap (map entry_of) c.as_slice.ensures) (ap (map entry_of) c.as_slice-2.ensures) c.in_default.ensures
+    c.in_default-first_unrecorded.ensures in
     record { value = a.value; words = a.words; only = λ x h. read_fixes c.args.bytes.now x h ∙ sym a.value }

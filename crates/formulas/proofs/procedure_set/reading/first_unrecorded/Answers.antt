@@ -9,13 +9,13 @@ pub loop-i-preserved : goal.loop-i-preserved
 loop-i-preserved c =
     let rs = map entry_of c.args.records.now in
     searching_more (bodied rs) entry_of c.args.records.now c.loop-i.i c.index-records-i.result c.index-records-i.result c.loop-i-test.true c.index-records-i.is
-    (passed_like (recorded rs) c.body.result.now (items c.index-records-i.result.body) true c.body.ensures c.if-not-all-recorded.ensures) c.loop-i.invariant
+    (passed_like (recorded rs) c.body.result.now (items c.index-records-i.result.body) true c.body.ensures c.if-not-all_recorded.ensures) c.loop-i.invariant
 
-pub returns-then-not-all-recorded : goal.returns-then-not-all-recorded
-returns-then-not-all-recorded c =
+pub returns-then-not-all_recorded : goal.returns-then-not-all_recorded
+returns-then-not-all_recorded c =
     let rs = map entry_of c.args.records.now in
     searching_stop (bodied rs) entry_of c.args.records.now c.loop-i.i c.index-records-i.result c.index-records-i.result c.loop-i-test.true c.index-records-i.is
-    (passed_like (recorded rs) c.body.result.now (items c.index-records-i.result.body) false c.body.ensures c.if-not-all-recorded.ensures) c.loop-i.invariant
+    (passed_like (recorded rs) c.body.result.now (items c.index-records-i.result.body) false c.body.ensures c.if-not-all_recorded.ensures) c.loop-i.invariant
 
 pub returns : goal.returns
 returns c = searching_end (bodied (map entry_of c.args.records.now)) entry_of c.args.records.now c.loop-i.i c.loop-i-test.false c.loop-i.invariant

@@ -15,17 +15,17 @@ loop-i-preserved c =
     let new = items c.push.new.self in
     let r = c.in-Some.«record» in
     let inv = c.loop-i.invariant in
-    let e : new ≡ old ++ r ∷ [] = pushed 128 old new r (omega (arith, inv.1, c.loop-i-test.true, c.if-whole-gt-MOST-RECORDS.false)) c.push.ensures.items in (
+    let e : new ≡ old ++ r ∷ [] = pushed 128 old new r (omega (arith, inv.1, c.loop-i-test.true, c.if-whole-gt-MOST_RECORDS.false)) c.push.ensures.items in (
       forming_more c.args.bytes.now (map entry_of old) (map entry_of new) (entry_of r) c.loop-i.i c.loop-i-test.true c.in-Some.ensures (ap (map entry_of) e ∙ map_push entry_of old r) inv.0,
       ap length e ∙ length_push old r ∙ ap (λ n. n + 1) inv.1,
     )
 
-pub returns-in-default : goal.returns-in-default
-returns-in-default c =
-    forming_stop c.args.bytes.now (map entry_of (items c.loop-i.records)) c.loop-i.i (whole_from c.args.bytes.now c.if-bytes-ne0.false c.if-whole-eq0.false c.if-whole-gt-MOST-RECORDS.false)
-    c.loop-i-test.true c.in-default.ensures c.loop-i.invariant.0
+pub returns-in_default : goal.returns-in_default
+returns-in_default c =
+    forming_stop c.args.bytes.now (map entry_of (items c.loop-i.records)) c.loop-i.i (whole_from c.args.bytes.now c.if-bytes-ne0.false c.if-whole-eq0.false c.if-whole-gt-MOST_RECORDS.false)
+    c.loop-i-test.true c.in_default.ensures c.loop-i.invariant.0
 
 pub returns : goal.returns
 returns c =
-    forming_end c.args.bytes.now (map entry_of (items c.loop-i.records)) c.loop-i.i (whole_from c.args.bytes.now c.if-bytes-ne0.false c.if-whole-eq0.false c.if-whole-gt-MOST-RECORDS.false)
+    forming_end c.args.bytes.now (map entry_of (items c.loop-i.records)) c.loop-i.i (whole_from c.args.bytes.now c.if-bytes-ne0.false c.if-whole-eq0.false c.if-whole-gt-MOST_RECORDS.false)
     c.loop-i-test.false c.loop-i.invariant.0

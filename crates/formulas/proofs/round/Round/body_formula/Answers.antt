@@ -11,19 +11,19 @@ pub loop-i-init : goal.loop-i-init
 loop-i-init c =
     (omega arith, body_end 64 (view c.args.table.now) (formulas_of c.args.self.now) c.args.body.now ∙ ap Some (sym c.neutral-formula.ensures))
 
-pub returns-in-err-formula : goal.returns-in-err-formula
-returns-in-err-formula c =
+pub returns-in_err-formula : goal.returns-in_err-formula
+returns-in_err-formula c =
     let t = view c.args.table.now in
     let L = formulas_of c.args.self.now in
     let s = c.args.body.now in
-    err_found c.from-residual.result c.from-residual.ensures.0
-    ∙ sym (body_none 64 t L s _ (body_more 64 t L s c.loop-i.i _ (formula_list c.loop-i.formula) None (omega (arith, c.loop-i-test.true)) c.loop-i.invariant.0 c.loop-i.invariant.1 (sym c.in-err-formula.ensures)))
+    err_found c.from_residual.result c.from_residual.ensures.0
+    ∙ sym (body_none 64 t L s _ (body_more 64 t L s c.loop-i.i _ (formula_list c.loop-i.formula) None (omega (arith, c.loop-i-test.true)) c.loop-i.invariant.0 c.loop-i.invariant.1 (sym c.in_err-formula.ensures)))
 
 pub loop-i-preserved : goal.loop-i-preserved
 loop-i-preserved c = (
   omega (arith, c.loop-i.invariant.0),
-  body_more 64 (view c.args.table.now) (formulas_of c.args.self.now) c.args.body.now c.loop-i.i _ (formula_list c.loop-i.formula) (Some (formula_list c.in-ok-formula.formula))
-      (omega (arith, c.loop-i-test.true)) c.loop-i.invariant.0 c.loop-i.invariant.1 (sym c.in-ok-formula.ensures),
+  body_more 64 (view c.args.table.now) (formulas_of c.args.self.now) c.args.body.now c.loop-i.i _ (formula_list c.loop-i.formula) (Some (formula_list c.in_ok-formula.formula))
+      (omega (arith, c.loop-i-test.true)) c.loop-i.invariant.0 c.loop-i.invariant.1 (sym c.in_ok-formula.ensures),
 )
 
 pub returns : goal.returns

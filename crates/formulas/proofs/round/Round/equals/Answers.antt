@@ -1,3 +1,5 @@
+use Rattle.std.specs.Prelude.{nat_eq}
+use Rattle.std.specs.Cmp.Lexicographic.{pointwise, bytes_decides}
 use Rattle.std.proofs.Common.{◌≡◌, false, [], get_or, sym, refl, ap, ◌∙◌, arith, below_more}
 use Rattle.std.proofs.lemmas.List.{get_or-map, length-map}
 use Rattle.std.proofs.lemmas.Bool.{both_ways}
@@ -10,19 +12,21 @@ pub loop-p-preserved : goal.loop-p-preserved
 loop-p-preserved c =
     let a = c.args.self.now in
     let b = c.args.other.now in
-    let t = c.ne.ensures in
+    let F = formula_list (get_or a.formulas c.loop-p.p c.index-self-p.result) in
+    let G = formula_list (get_or b.formulas c.loop-p.p c.index-other-p.result) in
     below_more _ _ c.loop-p.invariant
     (get_or-map formula_list a.formulas c.loop-p.p c.index-self-p.result [] (omega (arith, a.whole, c.loop-p-test.true))
-    ∙ told_same t.0 c.ne.result t.1.equal t.2 c.if-ne.false
+    ∙ told_same (pointwise nat_eq F G) c.ne.result (bytes_decides F G) c.ne.ensures c.if-ne.false
     ∙ sym (get_or-map formula_list b.formulas c.loop-p.p c.index-other-p.result [] (omega (arith, b.whole, c.loop-p-test.true))))
 
 pub returns-then-ne : goal.returns-then-ne
 returns-then-ne c =
     let a = c.args.self.now in
     let b = c.args.other.now in
-    let t = c.ne.ensures in (
+    let F = formula_list (get_or a.formulas c.loop-p.p c.index-self-p.result) in
+    let G = formula_list (get_or b.formulas c.loop-p.p c.index-other-p.result) in (
       λ e. absurd (both_ways false refl e),
-      λ e. absurd (told_other t.0 c.ne.result t.1.equal t.2 c.if-ne.true
+      λ e. absurd (told_other (pointwise nat_eq F G) c.ne.result (bytes_decides F G) c.ne.ensures c.if-ne.true
           (sym (get_or-map formula_list a.formulas c.loop-p.p c.index-self-p.result [] (omega (arith, a.whole, c.loop-p-test.true)))
           ∙ ap (λ l. get_or l c.loop-p.p []) e ∙ get_or-map formula_list b.formulas c.loop-p.p c.index-other-p.result [] (omega (arith, b.whole, c.loop-p-test.true)))),
     )

@@ -8,9 +8,9 @@ use Rattle.formulas.proofs.round.Round.next.Goals as goal
 pub loop-p-init : goal.loop-p-init
 loop-p-init c = (refl, gathering_none (view c.args.table.now) (entries c.args.set.now) (formulas_of c.args.self.now) [])
 
-pub returns-in-default : goal.returns-in-default
-returns-in-default c =
-    sym (ap round_answer (gathering-off (view c.args.table.now) (entries c.args.set.now) (formulas_of c.args.self.now) c.loop-p.formulas c.loop-p.p (omega (arith, procedures_are, c.loop-p-test.true)) c.loop-p.invariant.1 (sym c.in-default.ensures)))
+pub returns-in_default : goal.returns-in_default
+returns-in_default c =
+    sym (ap round_answer (gathering-off (view c.args.table.now) (entries c.args.set.now) (formulas_of c.args.self.now) c.loop-p.formulas c.loop-p.p (omega (arith, procedures_are, c.loop-p-test.true)) c.loop-p.invariant.1 (sym c.in_default.ensures)))
 
 pub loop-p-preserved : goal.loop-p-preserved
 loop-p-preserved c = (
@@ -19,8 +19,8 @@ loop-p-preserved c = (
       c.in-Ok.formula (omega (arith, c.loop-p.invariant.0, c.loop-p-test.true)) (sym c.in-Ok.ensures),
 )
 
-pub invariant-of-result : goal.invariant-of-result
-invariant-of-result c = (c.loop-p.invariant.0, tt)
+pub invariant_of-result : goal.invariant_of-result
+invariant_of-result c = record { whole = c.loop-p.invariant.0 }
 
 pub returns : goal.returns
 returns c =

@@ -10,5 +10,5 @@ use Rattle.formulas.proofs.round.Round.next_formula.Given as goal
 
 abbrev pub invariant-loop-i : goal.invariant-loop-i
 invariant-loop-i l =
-    combined_on 64 (view l.table) (formulas_of l.self) l.owner (option_map formula_list l.so-far) (bodies (drop l.i (entries l.set)) l.p)
+    combined_on 64 (view l.table) (formulas_of l.self) l.owner (option_map formula_list l.so_far) (bodies (drop l.i (entries l.set)) l.p)
     ≡ combined 64 (view l.table) (formulas_of l.self) l.owner (bodies (entries l.set) l.p)
