@@ -18,7 +18,7 @@ use Rattle.formulas.specs.declared.symbol.Owner.TheVariants.{Station, Field}
 use Rattle.formulas.specs.declared.symbol.Symbol.{Symbol}
 use Rattle.formulas.specs.declared.symbol.Symbol.TheVariants.{Command, Procedure}
 use Rattle.formulas.specs.Steps.{bind}
-use Rattle.formulas.specs.Formulas.{meets, impossible, neutral, Normal, BelowWidth, offers, unions, joins, joined, both, either, shift, or-after, and-after, then}
+use Rattle.formulas.specs.Formulas.{meets, impossible, neutral, Normal, BelowWidth, offers, unions, joins, joined, both, either, shift, or_after, and_after, then}
 use Rattle.formulas.specs.Rounds.{formula_at, shift_by, body_formula, mixed, mixed_all, combined, next_owned, next_formula}
 use Rattle.formulas.specs.Symbols.{Entry, bodies, owner_of}
 use Rattle.formulas.specs.Winning.{Assignment, assigned, winning}
@@ -27,7 +27,7 @@ use Rattle.formulas.proofs.Meets.{impossible-meets, offers-meet, either_meets}
 use Rattle.formulas.proofs.Monoids.{Monoid}
 use Rattle.formulas.proofs.Normals.{offers_normal, offers_all, nil_normal, one_normal}
 use Rattle.formulas.proofs.Records.{owner_belongs, of_body}
-use Rattle.formulas.proofs.Winning.{body-says}
+use Rattle.formulas.proofs.Winning.{body_says}
 
 -- ---- what the owner makes of the bodies
 
@@ -72,7 +72,7 @@ module _ (t : Table) (m : Monoid t) (limit : ℕ) (L : List (List ℕ)) where
   mixed_all_says : (o : Owner) (F : List ℕ) (q : ℕ → Bool) (bs : List (List Symbol)) → MeetsAs q F → Given (mixed_all limit t L o F bs) (MeetsAs (λ A. with_front o (q A) (wins A) bs))
   mixed_all_says o F q [] f = λ A. f A ∙ front_none o (q A) (wins A)
   mixed_all_says o F q (b ∷ bs) f =
-      given_bind (body_formula limit t L b) (λ G. bind (mixed limit o F G) (λ H. mixed_all limit t L o H bs)) (MeetsAs (λ A. wins A b)) (MeetsAs (λ A. with_front o (q A) (wins A) (b ∷ bs))) (body-says t m limit L b)
+      given_bind (body_formula limit t L b) (λ G. bind (mixed limit o F G) (λ H. mixed_all limit t L o H bs)) (MeetsAs (λ A. wins A b)) (MeetsAs (λ A. with_front o (q A) (wins A) (b ∷ bs))) (body_says t m limit L b)
       (λ G g. given_bind (mixed limit o F G) (λ H. mixed_all limit t L o H bs) (MeetsAs (λ A. with_front o (q A) (λ _. wins A b) ([] ∷ []))) (MeetsAs (λ A. with_front o (q A) (wins A) (b ∷ bs))) (mixed_says o F G q (λ A. wins A b) f g)
       (λ H h. given_weaker (mixed_all limit t L o H bs) (MeetsAs (λ A. with_front o (with_front o (q A) (λ _. wins A b) ([] ∷ [])) (wins A) bs)) (MeetsAs (λ A. with_front o (q A) (wins A) (b ∷ bs)))
       (mixed_all_says o H (λ A. with_front o (q A) (λ _. wins A b) ([] ∷ [])) bs h) (λ R r A. r A ∙ front_more o (q A) (wins A b) (wins A) bs b refl)))
@@ -92,7 +92,7 @@ module _ (t : Table) (m : Monoid t) (limit : ℕ) (L : List (List ℕ)) where
       go None e bs n = λ A. impossible-meets (has A)
       go (Some o) e [] n = absurd (some_body rs x o e n)
       go (Some o) e (b ∷ bs) n =
-          given_bind (body_formula limit t L b) (λ F. mixed_all limit t L o F bs) (MeetsAs (λ A. wins A b)) (MeetsAs (λ A. by_owner (Some o) (wins A) (b ∷ bs))) (body-says t m limit L b)
+          given_bind (body_formula limit t L b) (λ F. mixed_all limit t L o F bs) (MeetsAs (λ A. wins A b)) (MeetsAs (λ A. by_owner (Some o) (wins A) (b ∷ bs))) (body_says t m limit L b)
           (λ F f. given_weaker (mixed_all limit t L o F bs) (MeetsAs (λ A. with_front o (wins A b) (wins A) bs)) (MeetsAs (λ A. by_owner (Some o) (wins A) (b ∷ bs))) (mixed_all_says o F (λ A. wins A b) bs f)
           (λ R r A. r A ∙ by_front o (wins A) b bs))
 
@@ -148,22 +148,22 @@ module _ (t : Table) (m : Monoid t) (limit : ℕ) where
   shift_good : (e : ℕ) (F : List ℕ) → Given (shift limit t e F) (Good t)
   shift_good e F = offers_good [] (map (joined t e) F) nil_good (joined-all e F)
 
-  or_after_good : (G T es : List ℕ) → Good t T → Given (or-after limit t G T es) (Good t)
+  or_after_good : (G T es : List ℕ) → Good t T → Given (or_after limit t G T es) (Good t)
   or_after_good G T [] a = a
   or_after_good G T (e ∷ es) a = go (ltb e t.count) (or_after_good G T es a) (λ U u. or_after_good G U es u)
     where
-      go : (b : Bool) → Given (or-after limit t G T es) (Good t) → ((U : List ℕ) → Good t U → Given (or-after limit t G U es) (Good t))
-          → Given (cond b (bind (shift limit t e G) (λ S. bind (either limit T S) (λ U. or-after limit t G U es))) (or-after limit t G T es)) (Good t)
+      go : (b : Bool) → Given (or_after limit t G T es) (Good t) → ((U : List ℕ) → Good t U → Given (or_after limit t G U es) (Good t))
+          → Given (cond b (bind (shift limit t e G) (λ S. bind (either limit T S) (λ U. or_after limit t G U es))) (or_after limit t G T es)) (Good t)
       go false same ih = same
       go true same ih =
-          given_bind (shift limit t e G) (λ S. bind (either limit T S) (λ U. or-after limit t G U es)) (Good t) (Good t) (shift_good e G)
-          (λ S s. given_bind (either limit T S) (λ U. or-after limit t G U es) (Good t) (Good t) (either_good T S a.1 s.1) ih)
+          given_bind (shift limit t e G) (λ S. bind (either limit T S) (λ U. or_after limit t G U es)) (Good t) (Good t) (shift_good e G)
+          (λ S s. given_bind (either limit T S) (λ U. or_after limit t G U es) (Good t) (Good t) (either_good T S a.1 s.1) ih)
 
-  and_after_good : (G R F : List ℕ) → Good t R → Given (and-after limit t G R F) (Good t)
+  and_after_good : (G R F : List ℕ) → Good t R → Given (and_after limit t G R F) (Good t)
   and_after_good G R [] a = a
   and_after_good G R (K ∷ F) a =
-      given_bind (or-after limit t G impossible (members K)) (λ T. bind (both limit R T) (λ S. and-after limit t G S F)) (Good t) (Good t) (or_after_good G impossible (members K) impossible_good)
-      (λ T h. given_bind (both limit R T) (λ S. and-after limit t G S F) (Good t) (Good t) (offers_good R T a h.1) (λ S s. and_after_good G S F s))
+      given_bind (or_after limit t G impossible (members K)) (λ T. bind (both limit R T) (λ S. and_after limit t G S F)) (Good t) (Good t) (or_after_good G impossible (members K) impossible_good)
+      (λ T h. given_bind (both limit R T) (λ S. and_after limit t G S F) (Good t) (Good t) (offers_good R T a h.1) (λ S s. and_after_good G S F s))
 
   pub body_good : (L : List (List ℕ)) (s : List Symbol) → Given (body_formula limit t L s) (Good t)
   body_good L [] = neutral_good

@@ -28,8 +28,8 @@ module _ (limit : ℕ) (t : Table) (L : List (List ℕ)) (o : Owner) where
   on_step (Some F) b bs = refl
 
   module _ (rs : List Entry) (p i : ℕ) (r : Entry) (at : Some r ≡ slice_get rs i) (so_far : Option (List ℕ)) where
-    pub on-other : (r.procedure ≡ p → ⊥) → combined_on limit t L o so_far (bodies (drop i rs) p) ≡ combined_on limit t L o so_far (bodies (drop (i + 1) rs) p)
-    on-other n =
+    pub on_other : (r.procedure ≡ p → ⊥) → combined_on limit t L o so_far (bodies (drop i rs) p) ≡ combined_on limit t L o so_far (bodies (drop (i + 1) rs) p)
+    on_other n =
         ap (combined_on limit t L o so_far)
         (ap (λ l. bodies l p) (drop_nth rs i r at) ∙ cond-false (eqb r.procedure p) (r.body ∷ bodies (drop (i + 1) rs) p) (bodies (drop (i + 1) rs) p) (ne_eqb r.procedure p n))
 
@@ -43,9 +43,9 @@ module _ (limit : ℕ) (t : Table) (L : List (List ℕ)) (o : Owner) where
       pub on_none : body_formula limit t L r.body ≡ None → combined_on limit t L o so_far (bodies (drop i rs) p) ≡ None
       on_none e = here ∙ ap (λ x. bind x (λ G. bind (mixed_with limit o so_far G) (λ H. mixed_all limit t L o H (bodies (drop (i + 1) rs) p)))) e
 
-      pub on-mixed : (G : List ℕ) (x : Option (List ℕ)) → body_formula limit t L r.body ≡ Some G → mixed_with limit o so_far G ≡ x
+      pub on_mixed : (G : List ℕ) (x : Option (List ℕ)) → body_formula limit t L r.body ≡ Some G → mixed_with limit o so_far G ≡ x
           → combined_on limit t L o so_far (bodies (drop i rs) p) ≡ bind x (λ H. mixed_all limit t L o H (bodies (drop (i + 1) rs) p))
-      on-mixed G x e f =
+      on_mixed G x e f =
           here ∙ ap (λ x. bind x (λ G. bind (mixed_with limit o so_far G) (λ H. mixed_all limit t L o H (bodies (drop (i + 1) rs) p)))) e
           ∙ ap (λ x. bind x (λ H. mixed_all limit t L o H (bodies (drop (i + 1) rs) p))) f
 

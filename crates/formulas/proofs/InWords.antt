@@ -216,33 +216,33 @@ module _ (bytes : List ℕ) where
 
   -- the records that the first pass gave, as a slice that the other passes look at
   module _ (rs part : List Entry) (ok : Ok rs ≡ read_records bytes) where
-    checked-is : checked rs ≡ read_set bytes
-    checked-is = ap (λ x. bind_ok x checked) ok
+    checked_is : checked rs ≡ read_set bytes
+    checked_is = ap (λ x. bind_ok x checked) ok
 
-    strays-in : (o : Option ℕ) → part ≡ rs → o ≡ first_bad (agreed part) 0 part → o ≡ first_bad (agreed rs) 0 rs
-    strays-in o e h = h ∙ ap (λ l. first_bad (agreed l) 0 l) e
+    strays_in : (o : Option ℕ) → part ≡ rs → o ≡ first_bad (agreed part) 0 part → o ≡ first_bad (agreed rs) 0 rs
+    strays_in o e h = h ∙ ap (λ l. first_bad (agreed l) 0 l) e
 
-    pub refused-owner : (n : ℕ) → part ≡ rs → Some n ≡ first_bad (agreed part) 0 part → Answers bytes (Err (Stray n))
-    refused-owner n e h = answers_from bytes (Err (Stray n)) (ap (λ o. unless Stray o (unless Unrecorded (first_bad (bodied rs) 0 rs) (Ok rs))) (strays-in (Some n) e h) ∙ checked-is)
+    pub refused_owner : (n : ℕ) → part ≡ rs → Some n ≡ first_bad (agreed part) 0 part → Answers bytes (Err (Stray n))
+    refused_owner n e h = answers_from bytes (Err (Stray n)) (ap (λ o. unless Stray o (unless Unrecorded (first_bad (bodied rs) 0 rs) (Ok rs))) (strays_in (Some n) e h) ∙ checked_is)
 
     module _ (part' : List Entry) (e : part ≡ rs) (e' : part' ≡ rs) (agree : None ≡ first_bad (agreed part) 0 part) where
-      owners-passed : (o : Option ℕ) → o ≡ first_bad (bodied part') 0 part' → unless Unrecorded o (Ok rs) ≡ read_set bytes
-      owners-passed o h =
+      owners_passed : (o : Option ℕ) → o ≡ first_bad (bodied part') 0 part' → unless Unrecorded o (Ok rs) ≡ read_set bytes
+      owners_passed o h =
           ap (λ x. unless Unrecorded x (Ok rs)) (h ∙ ap (λ l. first_bad (bodied l) 0 l) e')
-          ∙ ap (λ x. unless Stray x (unless Unrecorded (first_bad (bodied rs) 0 rs) (Ok rs))) (strays-in None e agree) ∙ checked-is
+          ∙ ap (λ x. unless Stray x (unless Unrecorded (first_bad (bodied rs) 0 rs) (Ok rs))) (strays_in None e agree) ∙ checked_is
 
-      pub refused-body : (n : ℕ) → Some n ≡ first_bad (bodied part') 0 part' → Answers bytes (Err (Unrecorded n))
-      refused-body n h = answers_from bytes (Err (Unrecorded n)) (owners-passed (Some n) h)
+      pub refused_body : (n : ℕ) → Some n ≡ first_bad (bodied part') 0 part' → Answers bytes (Err (Unrecorded n))
+      refused_body n h = answers_from bytes (Err (Unrecorded n)) (owners_passed (Some n) h)
 
-      pub set-is-read : None ≡ first_bad (bodied part') 0 part' → Answers bytes (Ok rs)
-      set-is-read h = answers_from bytes (Ok rs) (owners-passed None h)
+      pub set_is_read : None ≡ first_bad (bodied part') 0 part' → Answers bytes (Ok rs)
+      set_is_read h = answers_from bytes (Ok rs) (owners_passed None h)
 
       -- what a procedure set promises of its records
-      pub set-some : 0 < length rs
-      set-some = let s = records_say bytes rs ok in omega (arith, s.sized, s.count)
+      pub set_some : 0 < length rs
+      set_some = let s = records_say bytes rs ok in omega (arith, s.sized, s.count)
 
-      pub set-agreed : all (agreed rs) rs ≡ true
-      set-agreed = none_bad (agreed rs) 0 rs (sym (strays-in None e agree))
+      pub set_agreed : all (agreed rs) rs ≡ true
+      set_agreed = none_bad (agreed rs) 0 rs (sym (strays_in None e agree))
 
-      pub set-bodied : None ≡ first_bad (bodied part') 0 part' → all (bodied rs) rs ≡ true
-      set-bodied h = none_bad (bodied rs) 0 rs (sym (h ∙ ap (λ l. first_bad (bodied l) 0 l) e'))
+      pub set_bodied : None ≡ first_bad (bodied part') 0 part' → all (bodied rs) rs ≡ true
+      set_bodied h = none_bad (bodied rs) 0 rs (sym (h ∙ ap (λ l. first_bad (bodied l) 0 l) e'))

@@ -9,7 +9,7 @@ use Rattle.foundation.specs.Laws.Members.{hits-none, hits-or, hits-gathered, hit
 use Rattle.foundation.specs.Laws.Tests.{all_map, all_append}
 use Rattle.rules.specs.Tables.{Table, join_of}
 use Rattle.formulas.specs.Steps.{bind}
-use Rattle.formulas.specs.Formulas.{meets, impossible, outside, placed, offer, offers, unions, leading, going_on, joins, joined, both, either, shift, or-after, and-after, then}
+use Rattle.formulas.specs.Formulas.{meets, impossible, outside, placed, offer, offers, unions, leading, going_on, joins, joined, both, either, shift, or_after, and_after, then}
 use Rattle.formulas.proofs.Given.{Given, given_bind, given_weaker}
 
 -- ---- offering is "and this clause too"
@@ -116,27 +116,27 @@ module _ (t : Table) (A : ℕ → Bool) where
         given_weaker (shift limit t e F) (λ R. meets A R ≡ (true && meets A (map (joined t e) F))) (λ R. meets A R ≡ meets (leading t A e) F) (offers-meet A limit [] (map (joined t e) F))
         (λ R h. h ∙ all_map (hits A) (joined t e) F ∙ ap (λ (p : ℕ → Bool). all p F) (fun_ext (hits-joined e)))
 
-    or-after-meets : (G T es : List ℕ) → Given (or-after limit t G T es) (λ R. meets A R ≡ (meets A T || any (going_on t A G) es))
-    or-after-meets G T [] = sym (or-false (meets A T))
-    or-after-meets G T (e ∷ es) = go (ltb e t.count) (or-after-meets G T es) (λ U. or-after-meets G U es)
+    or_after-meets : (G T es : List ℕ) → Given (or_after limit t G T es) (λ R. meets A R ≡ (meets A T || any (going_on t A G) es))
+    or_after-meets G T [] = sym (or-false (meets A T))
+    or_after-meets G T (e ∷ es) = go (ltb e t.count) (or_after-meets G T es) (λ U. or_after-meets G U es)
       where
-        go : (b : Bool) → Given (or-after limit t G T es) (λ R. meets A R ≡ (meets A T || any (going_on t A G) es)) → ((U : List ℕ) → Given (or-after limit t G U es) (λ R. meets A R ≡ (meets A U || any (going_on t A G) es)))
-            → Given (cond b (bind (shift limit t e G) (λ S. bind (either limit T S) (λ U. or-after limit t G U es))) (or-after limit t G T es)) (λ R. meets A R ≡ (meets A T || ((b && meets (leading t A e) G) || any (going_on t A G) es)))
+        go : (b : Bool) → Given (or_after limit t G T es) (λ R. meets A R ≡ (meets A T || any (going_on t A G) es)) → ((U : List ℕ) → Given (or_after limit t G U es) (λ R. meets A R ≡ (meets A U || any (going_on t A G) es)))
+            → Given (cond b (bind (shift limit t e G) (λ S. bind (either limit T S) (λ U. or_after limit t G U es))) (or_after limit t G T es)) (λ R. meets A R ≡ (meets A T || ((b && meets (leading t A e) G) || any (going_on t A G) es)))
         go false same ih = same
         go true same ih =
-            given_bind (shift limit t e G) (λ S. bind (either limit T S) (λ U. or-after limit t G U es)) (λ S. meets A S ≡ meets (leading t A e) G) (λ R. meets A R ≡ (meets A T || (meets (leading t A e) G || any (going_on t A G) es))) (shift-meets e G)
-            (λ S s. given_bind (either limit T S) (λ U. or-after limit t G U es) (λ U. meets A U ≡ (meets A T || meets A S)) (λ R. meets A R ≡ (meets A T || (meets (leading t A e) G || any (going_on t A G) es))) (either_meets A limit T S)
-            (λ U u. given_weaker (or-after limit t G U es) (λ R. meets A R ≡ (meets A U || any (going_on t A G) es)) (λ R. meets A R ≡ (meets A T || (meets (leading t A e) G || any (going_on t A G) es))) (ih U)
+            given_bind (shift limit t e G) (λ S. bind (either limit T S) (λ U. or_after limit t G U es)) (λ S. meets A S ≡ meets (leading t A e) G) (λ R. meets A R ≡ (meets A T || (meets (leading t A e) G || any (going_on t A G) es))) (shift-meets e G)
+            (λ S s. given_bind (either limit T S) (λ U. or_after limit t G U es) (λ U. meets A U ≡ (meets A T || meets A S)) (λ R. meets A R ≡ (meets A T || (meets (leading t A e) G || any (going_on t A G) es))) (either_meets A limit T S)
+            (λ U u. given_weaker (or_after limit t G U es) (λ R. meets A R ≡ (meets A U || any (going_on t A G) es)) (λ R. meets A R ≡ (meets A T || (meets (leading t A e) G || any (going_on t A G) es))) (ih U)
             (λ R r. r ∙ ap (λ b. b || any (going_on t A G) es) (u ∙ ap (λ b. meets A T || b) s) ∙ or_assoc (meets A T) (meets (leading t A e) G) (any (going_on t A G) es))))
 
-    and-after-meets : (G R F : List ℕ) → Given (and-after limit t G R F) (λ S. meets A S ≡ (meets A R && meets (going_on t A G) F))
-    and-after-meets G R [] = sym (and-true (meets A R))
-    and-after-meets G R (K ∷ F) =
-        given_bind (or-after limit t G impossible (members K)) (λ T. bind (both limit R T) (λ S. and-after limit t G S F)) (λ T. meets A T ≡ (meets A impossible || hits (going_on t A G) K)) (λ S. meets A S ≡ (meets A R && (hits (going_on t A G) K && meets (going_on t A G) F)))
-        (or-after-meets G impossible (members K))
-        (λ T e. given_bind (both limit R T) (λ S. and-after limit t G S F) (λ S. meets A S ≡ (meets A R && meets A T)) (λ S. meets A S ≡ (meets A R && (hits (going_on t A G) K && meets (going_on t A G) F))) (offers-meet A limit R T)
-        (λ U u. given_weaker (and-after limit t G U F) (λ S. meets A S ≡ (meets A U && meets (going_on t A G) F)) (λ S. meets A S ≡ (meets A R && (hits (going_on t A G) K && meets (going_on t A G) F))) (and-after-meets G U F)
+    and_after-meets : (G R F : List ℕ) → Given (and_after limit t G R F) (λ S. meets A S ≡ (meets A R && meets (going_on t A G) F))
+    and_after-meets G R [] = sym (and-true (meets A R))
+    and_after-meets G R (K ∷ F) =
+        given_bind (or_after limit t G impossible (members K)) (λ T. bind (both limit R T) (λ S. and_after limit t G S F)) (λ T. meets A T ≡ (meets A impossible || hits (going_on t A G) K)) (λ S. meets A S ≡ (meets A R && (hits (going_on t A G) K && meets (going_on t A G) F)))
+        (or_after-meets G impossible (members K))
+        (λ T e. given_bind (both limit R T) (λ S. and_after limit t G S F) (λ S. meets A S ≡ (meets A R && meets A T)) (λ S. meets A S ≡ (meets A R && (hits (going_on t A G) K && meets (going_on t A G) F))) (offers-meet A limit R T)
+        (λ U u. given_weaker (and_after limit t G U F) (λ S. meets A S ≡ (meets A U && meets (going_on t A G) F)) (λ S. meets A S ≡ (meets A R && (hits (going_on t A G) K && meets (going_on t A G) F))) (and_after-meets G U F)
         (λ S s. s ∙ ap (λ b. b && meets (going_on t A G) F) (u ∙ ap (λ b. meets A R && b) (e ∙ ap (λ b. b || hits (going_on t A G) K) (impossible-meets A))) ∙ and_assoc (meets A R) (hits (going_on t A G) K) (meets (going_on t A G) F))))
 
     pub then-meets : (F G : List ℕ) → Given (then limit t F G) (λ R. meets A R ≡ meets (going_on t A G) F)
-    then-meets F G = and-after-meets G [] F
+    then-meets F G = and_after-meets G [] F

@@ -44,13 +44,13 @@ module _ (t : Table) (rs : List Entry) (L : List (List ℕ)) where
     left : procedures - p ≡ suc (procedures - (p + 1))
     left = omega arith
 
-    pub gathering-off : next_formula 64 t rs L p ≡ None → next_round 64 rs t L ≡ Err p
-    gathering-off e =
+    pub gathering_off : next_formula 64 t rs L p ≡ None → next_round 64 rs t L ≡ Err p
+    gathering_off e =
         sym g ∙ ap (λ n. prefixed (map formula_list (take p fs)) (each_formula (next_formula 64 t rs L) (range_with_len p n))) left
         ∙ each_none (next_formula 64 t rs L) p (procedures - (p + 1)) (map formula_list (take p fs)) e
 
-    pub gathering-more : (x : Formula) → p < length fs → next_formula 64 t rs L p ≡ Some (formula_list x) → Gathering (set fs p x) (p + 1)
-    gathering-more x l e =
+    pub gathering_more : (x : Formula) → p < length fs → next_formula 64 t rs L p ≡ Some (formula_list x) → Gathering (set fs p x) (p + 1)
+    gathering_more x l e =
         ap (λ ys. prefixed ys (each_formula (next_formula 64 t rs L) (range_with_len (p + 1) (procedures - (p + 1))))) (ap (map formula_list) (take_more_set fs p x l) ∙ map-append formula_list (take p fs) (x ∷ []))
         ∙ sym (each_more (next_formula 64 t rs L) p (procedures - (p + 1)) (map formula_list (take p fs)) (formula_list x) e)
         ∙ ap (λ n. prefixed (map formula_list (take p fs)) (each_formula (next_formula 64 t rs L) (range_with_len p n))) (sym left) ∙ g

@@ -169,16 +169,16 @@ module _ (c : EffectSet) (xs slice : List EffectSet) (is : slice ≡ xs) (at : �
   rest_is =
       ap masks (take_all (length slice - at) (drop at slice) (omega (arith, length-drop at slice)) ∙ ap (drop at) is) ∙ sym (drop-map mask at xs)
 
-  module _ (with-c : Bounded EffectSet 64) (pushed : items with-c ≡ items front ++ c ∷ []) where
-    with-is : held with-c ≡ take at (masks xs) ++ mask c ∷ []
-    with-is = ap masks pushed ∙ map-append mask (items front) (c ∷ []) ∙ ap (λ l. l ++ mask c ∷ []) front_is
+  module _ (with_c : Bounded EffectSet 64) (pushed : items with_c ≡ items front ++ c ∷ []) where
+    with_is : held with_c ≡ take at (masks xs) ++ mask c ∷ []
+    with_is = ap masks pushed ∙ map-append mask (items front) (c ∷ []) ∙ ap (λ l. l ++ mask c ∷ []) front_is
 
-    pub entering-too-many : leb (length (held with-c) + length (outside (mask c) (masks (take (length slice - at) (drop at slice))))) 64 ≡ false → 64 < length (entering (mask c) (masks xs) at)
-    entering-too-many full =
+    pub entering_too_many : leb (length (held with_c) + length (outside (mask c) (masks (take (length slice - at) (drop at slice))))) 64 ≡ false → 64 < length (entering (mask c) (masks xs) at)
+    entering_too_many full =
         omega (
           arith,
-          leb-false (length (held with-c) + length (outside (mask c) (masks (take (length slice - at) (drop at slice))))) 64 full,
-          ap length with-is,
+          leb-false (length (held with_c) + length (outside (mask c) (masks (take (length slice - at) (drop at slice))))) 64 full,
+          ap length with_is,
           length_push (take at (masks xs)) (mask c),
           ap length (sym front_is),
           front_long,
@@ -186,9 +186,9 @@ module _ (c : EffectSet) (xs slice : List EffectSet) (is : slice ≡ xs) (at : �
           entering_long,
         )
 
-    pub entering-made : (next : Bounded EffectSet 64) → held next ≡ held with-c ++ outside (mask c) (masks (take (length slice - at) (drop at slice))) → held next ≡ entering (mask c) (masks xs) at
-    entering-made next e =
-        e ∙ ap (λ l. l ++ outside (mask c) (masks (take (length slice - at) (drop at slice)))) with-is
+    pub entering_made : (next : Bounded EffectSet 64) → held next ≡ held with_c ++ outside (mask c) (masks (take (length slice - at) (drop at slice))) → held next ≡ entering (mask c) (masks xs) at
+    entering_made next e =
+        e ∙ ap (λ l. l ++ outside (mask c) (masks (take (length slice - at) (drop at slice)))) with_is
         ∙ ap (λ l. (take at (masks xs) ++ mask c ∷ []) ++ outside (mask c) l) rest_is ∙ append_assoc (take at (masks xs)) (mask c ∷ []) (outside (mask c) (drop at (masks xs)))
 
 -- ---- how an offer comes out
@@ -199,33 +199,33 @@ module _ (C : ℕ) (F : List ℕ) where
   offer_held e = cond-true (any (λ K. within K C) F) (Some F) (cond (ltb (length (outside C F)) 64) (Some (placed C (outside C F))) None) e
 
   module _ (i : ℕ) (s : Stands C F i) where
-    outside-split : outside C F ≡ take i F ++ outside C (drop i F)
-    outside-split =
+    outside_split : outside C F ≡ take i F ++ outside C (drop i F)
+    outside_split =
         ap (outside C) (sym (take-append-drop i F)) ∙ filter-append (λ K. not (within C K)) (take i F) (drop i F) ∙ ap (λ l. l ++ outside C (drop i F)) s.front
 
-    outside-long : length (entering C F i) ≡ length (outside C F) + 1
-    outside-long =
-        length-append (take i F) (C ∷ outside C (drop i F)) ∙ (let a = ap length outside-split in let b = length-append (take i F) (outside C (drop i F)) in omega (arith, a, b))
+    outside_long : length (entering C F i) ≡ length (outside C F) + 1
+    outside_long =
+        length-append (take i F) (C ∷ outside C (drop i F)) ∙ (let a = ap length outside_split in let b = length-append (take i F) (outside C (drop i F)) in omega (arith, a, b))
 
-    pub offer-full : 64 < length (entering C F i) → offer 64 C F ≡ None
+    pub offer_full : 64 < length (entering C F i) → offer 64 C F ≡ None
     unfolding offer
-    offer-full h =
+    offer_full h =
         cond-false (any (λ K. within K C) F) (Some F) (cond (ltb (length (outside C F)) 64) (Some (placed C (outside C F))) None) s.new
-        ∙ cond-false (ltb (length (outside C F)) 64) (Some (placed C (outside C F))) None (le-ltb (length (outside C F)) 64 (omega (arith, outside-long)))
+        ∙ cond-false (ltb (length (outside C F)) 64) (Some (placed C (outside C F))) None (le-ltb (length (outside C F)) 64 (omega (arith, outside_long)))
 
     pub offer-entered : (b : Bounded EffectSet 64) → held b ≡ entering C F i → offer 64 C F ≡ Some (held b)
     unfolding offer
     offer-entered b e =
         cond-false (any (λ K. within K C) F) (Some F) (cond (ltb (length (outside C F)) 64) (Some (placed C (outside C F))) None) s.new
-        ∙ cond-true (ltb (length (outside C F)) 64) (Some (placed C (outside C F))) None (lt-ltb (length (outside C F)) 64 (omega (arith, outside-long, ap length e, held_few b)))
+        ∙ cond-true (ltb (length (outside C F)) 64) (Some (placed C (outside C F))) None (lt-ltb (length (outside C F)) 64 (omega (arith, outside_long, ap length e, held_few b)))
         ∙ ap Some (s.is ∙ sym e)
 
-    pub entered-least : Normal F → (b : Bounded EffectSet 64) → held b ≡ entering C F i → SmallestOf F C (held b)
-    entered-least n b e = subst (SmallestOf F C) (s.is ∙ sym e) (entered_smallest C F n s.new)
+    pub entered_least : Normal F → (b : Bounded EffectSet 64) → held b ≡ entering C F i → SmallestOf F C (held b)
+    entered_least n b e = subst (SmallestOf F C) (s.is ∙ sym e) (entered_smallest C F n s.new)
 
     -- the new list is normal too
-    pub entered-form : Normal F → (b : Bounded EffectSet 64) → held b ≡ entering C F i → Normal (held b)
-    entered-form n b e = subst Normal (s.is ∙ sym e) (entered_normal C F n s.new)
+    pub entered_form : Normal F → (b : Bounded EffectSet 64) → held b ≡ entering C F i → Normal (held b)
+    entered_form n b e = subst Normal (s.is ∙ sym e) (entered_normal C F n s.new)
 
 pub offer_also : (C : ℕ) (F G : List ℕ) → offer 64 C F ≡ Some G → AndAlso F C G
 offer_also C F G e A = given_some (offer 64 C F) (λ R. meets A R ≡ (meets A F && hits A C)) G (offer-meets A 64 C F) e

@@ -125,9 +125,9 @@ pub read_fixes : (bytes : List ℕ) (r : Result (List Entry) RecordsFault) → R
 read_fixes bytes (Ok rs) (s, agree, named) =
     sym (ap (λ o. unless Stray o (unless Unrecorded (first_bad (bodied rs) 0 rs) (Ok rs))) (none_from (agreed rs) 0 rs (agree_passes rs agree))
     ∙ ap (λ o. unless Unrecorded o (Ok rs)) (none_from (bodied rs) 0 rs (named_passes rs named))) ∙ checked_set bytes rs s
-read_fixes bytes (Err (Length n)) (not-whole, e) =
+read_fixes bytes (Err (Length n)) (not_whole, e) =
     ap (λ k. Err (Length k)) e
-    ∙ sym (ap (λ x. bind_ok x checked) (cond-false (whole bytes) (unless Form (first_bad formed 0 (pieces bytes)) (Ok (said (pieces bytes)))) (Err (Length (length bytes / 12))) (not_passing (whole bytes) (λ t. not-whole (whole_fact bytes t)))))
+    ∙ sym (ap (λ x. bind_ok x checked) (cond-false (whole bytes) (unless Form (first_bad formed 0 (pieces bytes)) (Ok (said (pieces bytes)))) (Err (Length (length bytes / 12))) (not_passing (whole bytes) (λ t. not_whole (whole_fact bytes t)))))
 read_fixes bytes (Err (Form n)) (w, h, none, have) =
     sym (ap (λ x. bind_ok x checked) (cond-true (whole bytes) (unless Form (first_bad formed 0 (pieces bytes)) (Ok (said (pieces bytes)))) (Err (Length (length bytes / 12))) (whole_test bytes w)
     ∙ ap (λ o. unless Form o (Ok (said (pieces bytes)))) (first_formless bytes n h none have)))

@@ -53,11 +53,11 @@ module _ (rs : List Entry) (t : Table) (a d : ℕ) (L : List (List ℕ)) (h : d 
     then_next : settle rs t (a - d) d L ≡ cond (same_rounds M L) (Ok (record { number = d + 1; formulas = M })) (settle rs t (a - (d + 1)) (d + 1) M)
     then_next = one_more ∙ ap (λ x. settle_on x L d (settle rs t (a - (d + 1)) (d + 1))) (answered_ok (next_round 64 rs t L) M e)
 
-    pub settle-here : Decides true (M ≡ L) → settle rs t (a - d) d L ≡ Ok (record { number = d + 1; formulas = M })
-    settle-here s = then_next ∙ cond-true (same_rounds M L) _ _ (told_rounds M L true s)
+    pub settle_here : Decides true (M ≡ L) → settle rs t (a - d) d L ≡ Ok (record { number = d + 1; formulas = M })
+    settle_here s = then_next ∙ cond-true (same_rounds M L) _ _ (told_rounds M L true s)
 
-    pub settle-more : Decides false (M ≡ L) → settle rs t (a - d) d L ≡ settle rs t (a - (d + 1)) (d + 1) M
-    settle-more s = then_next ∙ cond-false (same_rounds M L) _ _ (told_rounds M L false s)
+    pub settle_more : Decides false (M ≡ L) → settle rs t (a - d) d L ≡ settle rs t (a - (d + 1)) (d + 1) M
+    settle_more s = then_next ∙ cond-false (same_rounds M L) _ _ (told_rounds M L false s)
 
 pub settle_none : (rs : List Entry) (t : Table) (a d : ℕ) (L : List (List ℕ)) → d ≡ a → settle rs t (a - d) d L ≡ Err (Unsettled a)
 settle_none rs t a d L h = let n : a - d ≡ 0 = omega arith in ap (λ n. settle rs t n d L) n ∙ ap (λ k. Err (Unsettled k)) h
@@ -69,11 +69,11 @@ module _ {X : Type 0} (good : X → Bool) (xs : List X) where
   Looking i = first_bad good i (drop i xs) ≡ first_bad good 0 xs
 
   module _ (i : ℕ) (x : X) (at : Some x ≡ slice_get xs i) (l : Looking i) where
-    pub looking-more : good x ≡ true → Looking (i + 1)
-    looking-more g = sym (ap (first_bad good i) (drop_nth xs i x at) ∙ cond-true (good x) (first_bad good (i + 1) (drop (i + 1) xs)) (Some i) g) ∙ l
+    pub looking_more : good x ≡ true → Looking (i + 1)
+    looking_more g = sym (ap (first_bad good i) (drop_nth xs i x at) ∙ cond-true (good x) (first_bad good (i + 1) (drop (i + 1) xs)) (Some i) g) ∙ l
 
-    pub looking-found : good x ≡ false → Some i ≡ first_bad good 0 xs
-    looking-found g = sym (ap (first_bad good i) (drop_nth xs i x at) ∙ cond-false (good x) (first_bad good (i + 1) (drop (i + 1) xs)) (Some i) g) ∙ l
+    pub looking_found : good x ≡ false → Some i ≡ first_bad good 0 xs
+    looking_found g = sym (ap (first_bad good i) (drop_nth xs i x at) ∙ cond-false (good x) (first_bad good (i + 1) (drop (i + 1) xs)) (Some i) g) ∙ l
 
   pub looking_end : (i : ℕ) → length xs ≤ i → Looking i → None ≡ first_bad good 0 xs
   looking_end i h l = sym (ap (first_bad good i) (drop_all i xs h)) ∙ l

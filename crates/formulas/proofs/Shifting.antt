@@ -16,7 +16,7 @@ use Rattle.rules.specs.Tables.{Table, join_of}
 use Rattle.formulas.specs.declared.fault.Overflow.{Overflow}
 use Rattle.formulas.specs.declared.formula.Formula.{Formula}
 use Rattle.formulas.specs.Steps.{bind}
-use Rattle.formulas.specs.Formulas.{impossible, offer, offers, joins, joined, both, either, shift, or-after, and-after}
+use Rattle.formulas.specs.Formulas.{impossible, offer, offers, joins, joined, both, either, shift, or_after, and_after}
 use Rattle.formulas.specs.FormulaViews.{found}
 use Rattle.formulas.specs.Masks.{mask, masks}
 use Rattle.formulas.proofs.Monoids.{Monoid, table_monoid}
@@ -97,32 +97,32 @@ module _ (limit : ℕ) (t : Table) (G : List ℕ) where
   shift_end e F xs i h = ap (λ l. offers limit F (map (joined t e) l)) (masks_end xs i h)
 
   module _ (T : List ℕ) (K i b : ℕ) (h : i < length (members K)) (is : b ≡ get_or (members K) i 0) where
-    on : or-after limit t G T (drop i (members K)) ≡ cond (ltb b t.count) (bind (shift limit t b G) (λ S. bind (either limit T S) (λ U. or-after limit t G U (drop (i + 1) (members K))))) (or-after limit t G T (drop (i + 1) (members K)))
-    on = ap (or-after limit t G T) (drop_more (members K) i 0 h ∙ ap (λ x. x ∷ drop (i + 1) (members K)) (sym is))
+    on : or_after limit t G T (drop i (members K)) ≡ cond (ltb b t.count) (bind (shift limit t b G) (λ S. bind (either limit T S) (λ U. or_after limit t G U (drop (i + 1) (members K))))) (or_after limit t G T (drop (i + 1) (members K)))
+    on = ap (or_after limit t G T) (drop_more (members K) i 0 h ∙ ap (λ x. x ∷ drop (i + 1) (members K)) (sym is))
 
-    pub or-absent : t.count ≤ b → or-after limit t G T (drop i (members K)) ≡ or-after limit t G T (drop (i + 1) (members K))
-    or-absent l = on ∙ cond-false (ltb b t.count) _ _ (le-ltb b t.count l)
+    pub or_absent : t.count ≤ b → or_after limit t G T (drop i (members K)) ≡ or_after limit t G T (drop (i + 1) (members K))
+    or_absent l = on ∙ cond-false (ltb b t.count) _ _ (le-ltb b t.count l)
 
     module _ (l : b < t.count) where
-      pub or-present : (o : Option (List ℕ)) → shift limit t b G ≡ o → or-after limit t G T (drop i (members K)) ≡ bind o (λ S. bind (either limit T S) (λ U. or-after limit t G U (drop (i + 1) (members K))))
-      or-present o s = on ∙ cond-true (ltb b t.count) _ _ (lt-ltb b t.count l) ∙ ap (λ o. bind o (λ S. bind (either limit T S) (λ U. or-after limit t G U (drop (i + 1) (members K))))) s
+      pub or_present : (o : Option (List ℕ)) → shift limit t b G ≡ o → or_after limit t G T (drop i (members K)) ≡ bind o (λ S. bind (either limit T S) (λ U. or_after limit t G U (drop (i + 1) (members K))))
+      or_present o s = on ∙ cond-true (ltb b t.count) _ _ (lt-ltb b t.count l) ∙ ap (λ o. bind o (λ S. bind (either limit T S) (λ U. or_after limit t G U (drop (i + 1) (members K))))) s
 
-      pub or-more : (S : List ℕ) → shift limit t b G ≡ Some S → (o : Option (List ℕ)) → either limit T S ≡ o → or-after limit t G T (drop i (members K)) ≡ bind o (λ U. or-after limit t G U (drop (i + 1) (members K)))
-      or-more S s o q = or-present (Some S) s ∙ ap (λ o. bind o (λ U. or-after limit t G U (drop (i + 1) (members K)))) q
+      pub or_more : (S : List ℕ) → shift limit t b G ≡ Some S → (o : Option (List ℕ)) → either limit T S ≡ o → or_after limit t G T (drop i (members K)) ≡ bind o (λ U. or_after limit t G U (drop (i + 1) (members K)))
+      or_more S s o q = or_present (Some S) s ∙ ap (λ o. bind o (λ U. or_after limit t G U (drop (i + 1) (members K)))) q
 
-  pub or_end : (T : List ℕ) (K i : ℕ) → length (members K) ≤ i → or-after limit t G T (drop i (members K)) ≡ Some T
-  or_end T K i h = ap (or-after limit t G T) (drop_all i (members K) h)
+  pub or_end : (T : List ℕ) (K i : ℕ) → length (members K) ≤ i → or_after limit t G T (drop i (members K)) ≡ Some T
+  or_end T K i h = ap (or_after limit t G T) (drop_all i (members K) h)
 
-  pub and_from : (R : List ℕ) (xs : List EffectSet) (i : ℕ) (o : Option (List ℕ)) → i < length xs → or-after limit t G impossible (members (mask (get_or xs i (record { bits = 0 })))) ≡ o
-      → and-after limit t G R (drop i (masks xs)) ≡ bind o (λ T. bind (both limit R T) (λ S. and-after limit t G S (drop (i + 1) (masks xs))))
-  and_from R xs i o h q = ap (and-after limit t G R) (masks_from xs i h) ∙ ap (λ o. bind o (λ T. bind (both limit R T) (λ S. and-after limit t G S (drop (i + 1) (masks xs))))) q
+  pub and_from : (R : List ℕ) (xs : List EffectSet) (i : ℕ) (o : Option (List ℕ)) → i < length xs → or_after limit t G impossible (members (mask (get_or xs i (record { bits = 0 })))) ≡ o
+      → and_after limit t G R (drop i (masks xs)) ≡ bind o (λ T. bind (both limit R T) (λ S. and_after limit t G S (drop (i + 1) (masks xs))))
+  and_from R xs i o h q = ap (and_after limit t G R) (masks_from xs i h) ∙ ap (λ o. bind o (λ T. bind (both limit R T) (λ S. and_after limit t G S (drop (i + 1) (masks xs))))) q
 
-  pub and_more : (R : List ℕ) (xs : List EffectSet) (i : ℕ) (T : List ℕ) → i < length xs → or-after limit t G impossible (members (mask (get_or xs i (record { bits = 0 })))) ≡ Some T → (o : Option (List ℕ)) → both limit R T ≡ o
-      → and-after limit t G R (drop i (masks xs)) ≡ bind o (λ S. and-after limit t G S (drop (i + 1) (masks xs)))
-  and_more R xs i T h q o r = and_from R xs i (Some T) h q ∙ ap (λ o. bind o (λ S. and-after limit t G S (drop (i + 1) (masks xs)))) r
+  pub and_more : (R : List ℕ) (xs : List EffectSet) (i : ℕ) (T : List ℕ) → i < length xs → or_after limit t G impossible (members (mask (get_or xs i (record { bits = 0 })))) ≡ Some T → (o : Option (List ℕ)) → both limit R T ≡ o
+      → and_after limit t G R (drop i (masks xs)) ≡ bind o (λ S. and_after limit t G S (drop (i + 1) (masks xs)))
+  and_more R xs i T h q o r = and_from R xs i (Some T) h q ∙ ap (λ o. bind o (λ S. and_after limit t G S (drop (i + 1) (masks xs)))) r
 
-  pub and_end : (R : List ℕ) (xs : List EffectSet) (i : ℕ) → length xs ≤ i → and-after limit t G R (drop i (masks xs)) ≡ Some R
-  and_end R xs i h = ap (and-after limit t G R) (masks_end xs i h)
+  pub and_end : (R : List ℕ) (xs : List EffectSet) (i : ℕ) → length xs ≤ i → and_after limit t G R (drop i (masks xs)) ≡ Some R
+  and_end R xs i h = ap (and_after limit t G R) (masks_end xs i h)
 
 -- ---- answers that are errors
 

@@ -52,36 +52,36 @@ module _ (t : Table) (m : Monoid t) where
     winning-append A (Procedure x ∷ s) z = ap (before_procedure t (φ x)) (winning-append A s z)
 
     -- in front of a set, by one command
-    pub winning-known : (A c : ℕ) (s : List Symbol) (e : ℕ) → c < t.commands → e < t.count → has (winning t φ A (Command c ∷ s)) e ≡ has (winning t φ A s) (join_of t e (number_of t c))
-    winning-known A c s e h l = ap (λ o. has (before_command t o (winning t φ A s)) e) (command_known t m c h) ∙ has_where (λ e. has (winning t φ A s) (join_of t e (number_of t c))) e l
+    pub winning_known : (A c : ℕ) (s : List Symbol) (e : ℕ) → c < t.commands → e < t.count → has (winning t φ A (Command c ∷ s)) e ≡ has (winning t φ A s) (join_of t e (number_of t c))
+    winning_known A c s e h l = ap (λ o. has (before_command t o (winning t φ A s)) e) (command_known t m c h) ∙ has_where (λ e. has (winning t φ A s) (join_of t e (number_of t c))) e l
 
-    pub winning-lacking : (A c : ℕ) (s : List Symbol) (e : ℕ) → t.commands ≤ c → has (winning t φ A (Command c ∷ s)) e ≡ false
-    winning-lacking A c s e h = ap (λ o. has (before_command t o (winning t φ A s)) e) (command_lacking t m c h) ∙ has-zero e
+    pub winning_lacking : (A c : ℕ) (s : List Symbol) (e : ℕ) → t.commands ≤ c → has (winning t φ A (Command c ∷ s)) e ≡ false
+    winning_lacking A c s e h = ap (λ o. has (before_command t o (winning t φ A s)) e) (command_lacking t m c h) ∙ has-zero e
 
-    pub winning-procedure : (A x : ℕ) (s : List Symbol) (e : ℕ) → e < t.count → has (winning t φ A (Procedure x ∷ s)) e ≡ φ x (after_effect t (winning t φ A s) e)
-    winning-procedure A x s e l = has_where (λ e. φ x (after_effect t (winning t φ A s) e)) e l
+    pub winning_procedure : (A x : ℕ) (s : List Symbol) (e : ℕ) → e < t.count → has (winning t φ A (Procedure x ∷ s)) e ≡ φ x (after_effect t (winning t φ A s) e)
+    winning_procedure A x s e l = has_where (λ e. φ x (after_effect t (winning t φ A s) e)) e l
 
     -- from e on into A is from the start on into what leads into A after e
-    pub after-winning : (A e : ℕ) (s : List Symbol) (k : ℕ) → e < t.count → k < t.count → has (winning t φ (after_effect t A e) s) k ≡ has (winning t φ A s) (join_of t e k)
-    after-winning A e [] k h l = has_where (λ k. has A (join_of t e k)) k l
-    after-winning A e (Command c ∷ s) k h l = go (cases_lt c t.commands) (after-winning A e s)
+    pub after_winning : (A e : ℕ) (s : List Symbol) (k : ℕ) → e < t.count → k < t.count → has (winning t φ (after_effect t A e) s) k ≡ has (winning t φ A s) (join_of t e k)
+    after_winning A e [] k h l = has_where (λ k. has A (join_of t e k)) k l
+    after_winning A e (Command c ∷ s) k h l = go (cases_lt c t.commands) (after_winning A e s)
       where
         go : (c < t.commands) ⊎ (t.commands ≤ c) → ((k : ℕ) → e < t.count → k < t.count → has (winning t φ (after_effect t A e) s) k ≡ has (winning t φ A s) (join_of t e k))
             → has (winning t φ (after_effect t A e) (Command c ∷ s)) k ≡ has (winning t φ A (Command c ∷ s)) (join_of t e k)
         go (inl q) ih =
-            winning-known (after_effect t A e) c s k q l ∙ ih (join_of t k (number_of t c)) h (m.closed k (number_of t c) l (m.command c q))
-            ∙ ap (has (winning t φ A s)) (sym (m.assoc e k (number_of t c) h l (m.command c q))) ∙ sym (winning-known A c s (join_of t e k) q (m.closed e k h l))
-        go (inr q) ih = winning-lacking (after_effect t A e) c s k q ∙ sym (winning-lacking A c s (join_of t e k) q)
-    after-winning A e (Procedure x ∷ s) k h l =
-        winning-procedure (after_effect t A e) x s k l
+            winning_known (after_effect t A e) c s k q l ∙ ih (join_of t k (number_of t c)) h (m.closed k (number_of t c) l (m.command c q))
+            ∙ ap (has (winning t φ A s)) (sym (m.assoc e k (number_of t c) h l (m.command c q))) ∙ sym (winning_known A c s (join_of t e k) q (m.closed e k h l))
+        go (inr q) ih = winning_lacking (after_effect t A e) c s k q ∙ sym (winning_lacking A c s (join_of t e k) q)
+    after_winning A e (Procedure x ∷ s) k h l =
+        winning_procedure (after_effect t A e) x s k l
         ∙ ap (φ x) (number_ext (λ i. has (winning t φ (after_effect t A e) s) (join_of t k i)) (λ i. has (winning t φ A s) (join_of t (join_of t e k) i)) t.count
-        (λ i q. after-winning A e s (join_of t k i) h (m.closed k i l q) ∙ ap (has (winning t φ A s)) (sym (m.assoc e k i h l q))))
-        ∙ sym (winning-procedure A x s (join_of t e k) (m.closed e k h l))
+        (λ i q. after_winning A e s (join_of t k i) h (m.closed k i l q) ∙ ap (has (winning t φ A s)) (sym (m.assoc e k i h l q))))
+        ∙ sym (winning_procedure A x s (join_of t e k) (m.closed e k h l))
 
     -- b and then z, from e on
-    pub winning-from : (A e : ℕ) (b z : List Symbol) → e < t.count → has (winning t φ (after_effect t (winning t φ A z) e) b) 0 ≡ has (winning t φ A (b ++ z)) e
-    winning-from A e b z h =
-        after-winning (winning t φ A z) e b 0 h m.some ∙ ap (has (winning t φ (winning t φ A z) b)) (m.right e h) ∙ ap (λ W. has W e) (sym (winning-append A b z))
+    pub winning_from : (A e : ℕ) (b z : List Symbol) → e < t.count → has (winning t φ (after_effect t (winning t φ A z) e) b) 0 ≡ has (winning t φ A (b ++ z)) e
+    winning_from A e b z h =
+        after_winning (winning t φ A z) e b 0 h m.some ∙ ap (has (winning t φ (winning t φ A z) b)) (m.right e h) ∙ ap (λ W. has W e) (sym (winning-append A b z))
 
   -- ---- the formula of a list of symbols
 
@@ -92,15 +92,15 @@ module _ (t : Table) (m : Monoid t) where
     abbrev pub Says : List Symbol → List ℕ → Type 0
     Says s R = (A : ℕ) → meets (has A) R ≡ has (winning t (assigned (formula_at L)) A s) 0
 
-    by-command : (c : ℕ) (s : List Symbol) (R : List ℕ) → Says s R → Given (shift_by limit t (table_command t c) R) (Says (Command c ∷ s))
-    by-command c s R says = go (table_command t c) refl (cases_lt c t.commands)
+    by_command : (c : ℕ) (s : List Symbol) (R : List ℕ) → Says s R → Given (shift_by limit t (table_command t c) R) (Says (Command c ∷ s))
+    by_command c s R says = go (table_command t c) refl (cases_lt c t.commands)
       where
         W : ℕ → ℕ
         W A = winning t (assigned (formula_at L)) A s
 
         go : (o : Option ℕ) → table_command t c ≡ o → (c < t.commands) ⊎ (t.commands ≤ c) → Given (shift_by limit t o R) (Says (Command c ∷ s))
         go None q (inl h) = absurd (let e = command_known t m c h in let z : ◌≡◌ {A = ℕ} 0 1 = cc in omega arith)
-        go None q (inr h) = λ A. impossible-meets (has A) ∙ sym (winning-lacking (assigned (formula_at L)) A c s 0 h)
+        go None q (inr h) = λ A. impossible-meets (has A) ∙ sym (winning_lacking (assigned (formula_at L)) A c s 0 h)
         go (Some e) q (inr h) = absurd (let z = command_lacking t m c h in let y : ◌≡◌ {A = ℕ} 0 1 = cc in omega arith)
         go (Some e) q (inl h) = each (shift limit t e R) (λ A. shift-meets t (has A) limit e R)
           where
@@ -114,22 +114,22 @@ module _ (t : Table) (m : Monoid t) where
             each None f = tt
             each (Some S) f = λ A.
                 f A ∙ ap (λ p. meets p R) (leading_is A e small) ∙ says (after_effect t A e)
-                ∙ after-winning (assigned (formula_at L)) A e s 0 small m.some ∙ ap (has (W A)) (m.right e small ∙ is ∙ sym (m.left (number_of t c) (m.command c h)))
-                ∙ sym (winning-known (assigned (formula_at L)) A c s 0 h m.some)
+                ∙ after_winning (assigned (formula_at L)) A e s 0 small m.some ∙ ap (has (W A)) (m.right e small ∙ is ∙ sym (m.left (number_of t c) (m.command c h)))
+                ∙ sym (winning_known (assigned (formula_at L)) A c s 0 h m.some)
 
-    by-procedure : (x : ℕ) (s : List Symbol) (R : List ℕ) → Says s R → Given (then limit t (formula_at L x) R) (Says (Procedure x ∷ s))
-    by-procedure x s R says = each (then limit t (formula_at L x) R) (λ A. then-meets t (has A) limit (formula_at L x) R)
+    by_procedure : (x : ℕ) (s : List Symbol) (R : List ℕ) → Says s R → Given (then limit t (formula_at L x) R) (Says (Procedure x ∷ s))
+    by_procedure x s R says = each (then limit t (formula_at L x) R) (λ A. then-meets t (has A) limit (formula_at L x) R)
       where
         W : ℕ → ℕ
         W A = winning t (assigned (formula_at L)) A s
 
-        going-on-is : (A e : ℕ) → going_on t (has A) R e ≡ has (after_effect t (W A) 0) e
-        going-on-is A e = go (cases_lt e t.count)
+        going_on_is : (A e : ℕ) → going_on t (has A) R e ≡ has (after_effect t (W A) 0) e
+        going_on_is A e = go (cases_lt e t.count)
           where
             go : (e < t.count) ⊎ (t.count ≤ e) → going_on t (has A) R e ≡ has (after_effect t (W A) 0) e
             go (inl h) =
                 ap (λ b. b && meets (leading t (has A) e) R) (lt-ltb e t.count h) ∙ ap (λ p. meets p R) (leading_is A e h) ∙ says (after_effect t A e)
-                ∙ after-winning (assigned (formula_at L)) A e s 0 h m.some ∙ ap (has (W A)) (m.right e h ∙ sym (m.left e h)) ∙ sym (has_where (λ k. has (W A) (join_of t 0 k)) e h)
+                ∙ after_winning (assigned (formula_at L)) A e s 0 h m.some ∙ ap (has (W A)) (m.right e h ∙ sym (m.left e h)) ∙ sym (has_where (λ k. has (W A) (join_of t 0 k)) e h)
             go (inr h) =
                 ap (λ b. b && meets (leading t (has A) e) R) (le-ltb e t.count h)
                 ∙ sym (has_above t.count (after_effect t (W A) 0) e (number_lt (λ k. has (W A) (join_of t 0 k)) t.count) h)
@@ -137,12 +137,12 @@ module _ (t : Table) (m : Monoid t) where
         each : (o : Option (List ℕ)) → ((A : ℕ) → Given o (λ S. meets (has A) S ≡ meets (going_on t (has A) R) (formula_at L x))) → Given o (Says (Procedure x ∷ s))
         each None f = tt
         each (Some S) f = λ A.
-            f A ∙ ap (λ (p : ℕ → Bool). meets p (formula_at L x)) (fun_ext (going-on-is A)) ∙ sym (winning-procedure (assigned (formula_at L)) A x s 0 m.some)
+            f A ∙ ap (λ (p : ℕ → Bool). meets p (formula_at L x)) (fun_ext (going_on_is A)) ∙ sym (winning_procedure (assigned (formula_at L)) A x s 0 m.some)
 
-    pub body-says : (s : List Symbol) → Given (body_formula limit t L s) (Says s)
-    body-says [] = λ A. ap (λ b. b && true) (hits_one (has A) 0) ∙ and-true (has A 0)
-    body-says (Command c ∷ s) = given_bind (body_formula limit t L s) (shift_by limit t (table_command t c)) (Says s) (Says (Command c ∷ s)) (body-says s) (by-command c s)
-    body-says (Procedure x ∷ s) = given_bind (body_formula limit t L s) (then limit t (formula_at L x)) (Says s) (Says (Procedure x ∷ s)) (body-says s) (by-procedure x s)
+    pub body_says : (s : List Symbol) → Given (body_formula limit t L s) (Says s)
+    body_says [] = λ A. ap (λ b. b && true) (hits_one (has A) 0) ∙ and-true (has A 0)
+    body_says (Command c ∷ s) = given_bind (body_formula limit t L s) (shift_by limit t (table_command t c)) (Says s) (Says (Command c ∷ s)) (body_says s) (by_command c s)
+    body_says (Procedure x ∷ s) = given_bind (body_formula limit t L s) (then limit t (formula_at L x)) (Says s) (Says (Procedure x ∷ s)) (body_says s) (by_procedure x s)
 
 -- ---- worked out from the end
 

@@ -23,14 +23,14 @@ module _ (rs : List Entry) (t : Table) where
     pub without : (x A : ℕ) → A < 2 ^ t.count → ((r : Entry) → Of rs x r → ⊥) → φ x A ≡ false
 
   -- the formulas solve the equations, the field wins by them only where it does by every solution, and their clauses are the smallest ones, in rising order
-  pub record Least-solution (L : List (List ℕ)) : Type 0 where
+  pub record LeastSolution (L : List (List ℕ)) : Type 0 where
     pub solves : Solves (assigned (formula_at L))
     pub least : (φ : Assignment) → Solves φ → (x A : ℕ) → A < 2 ^ t.count → assigned (formula_at L) x A ≡ true → φ x A ≡ true
     pub smallest : (x : ℕ) → Normal (formula_at L x)
     pub numbers : (x : ℕ) → BelowWidth t.count (formula_at L x)
 
   -- L is round k, which is equal to the round before it; of the earlier rounds none is
-  pub record First-settled (limit k : ℕ) (L : List (List ℕ)) : Type 0 where
+  pub record FirstSettled (limit k : ℕ) (L : List (List ℕ)) : Type 0 where
     pub before : ℕ
     pub after : k ≡ suc before
     pub is : round limit rs t k ≡ Ok L
@@ -48,7 +48,7 @@ pub record SettledLists (rs : List Entry) (t : Table) (lists : ℕ → List ℕ)
   pub number : ℕ
   pub formulas : List (List ℕ)
   pub are : (x : ℕ) → lists x ≡ formula_at formulas x
-  pub settled : First-settled rs t 64 number formulas
+  pub settled : FirstSettled rs t 64 number formulas
 
 -- W has exactly the effects after which the field has a tree on s, where A is forbidden
 abbrev pub WonByTrees : List Entry → Table → ℕ → List Symbol → ℕ → Type 0

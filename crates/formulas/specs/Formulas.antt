@@ -93,14 +93,14 @@ module _ (limit : ℕ) where
     shift e F = offers limit [] (map (joined t e) F)
 
     -- T, or G after one of the effects
-    abbrev pub or-after : List ℕ → List ℕ → List ℕ → Option (List ℕ)
-    or-after G T [] = Some T
-    or-after G T (e ∷ es) = cond (nat_lt e t.count) (bind (shift e G) (λ S. bind (either T S) (λ U. or-after G U es))) (or-after G T es)
+    abbrev pub or_after : List ℕ → List ℕ → List ℕ → Option (List ℕ)
+    or_after G T [] = Some T
+    or_after G T (e ∷ es) = cond (nat_lt e t.count) (bind (shift e G) (λ S. bind (either T S) (λ U. or_after G U es))) (or_after G T es)
 
     -- R, and for each clause of F: G after one of its effects
-    abbrev pub and-after : List ℕ → List ℕ → List ℕ → Option (List ℕ)
-    and-after G R [] = Some R
-    and-after G R (K ∷ F) = bind (or-after G impossible (members K)) (λ T. bind (both R T) (λ S. and-after G S F))
+    abbrev pub and_after : List ℕ → List ℕ → List ℕ → Option (List ℕ)
+    and_after G R [] = Some R
+    and_after G R (K ∷ F) = bind (or_after G impossible (members K)) (λ T. bind (both R T) (λ S. and_after G S F))
 
     abbrev pub then : List ℕ → List ℕ → Option (List ℕ)
-    then F G = and-after G [] F
+    then F G = and_after G [] F

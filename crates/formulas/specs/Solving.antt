@@ -9,7 +9,7 @@ use Rattle.formulas.specs.declared.fault.SolveFault.{SolveFault}
 use Rattle.formulas.specs.declared.fault.SolveFault.TheVariants.{Allowance, UnknownCommand, TooManyClauses, Unsettled}
 use Rattle.formulas.specs.declared.symbol.Symbol.{Symbol}
 use Rattle.formulas.specs.declared.symbol.Symbol.TheVariants.{Command, Procedure}
-use Rattle.formulas.specs.Equations.{Least-solution, First-settled}
+use Rattle.formulas.specs.Equations.{LeastSolution, FirstSettled}
 use Rattle.formulas.specs.Rounds.{first_round, next_round, round}
 use Rattle.formulas.specs.Searches.{first_bad}
 use Rattle.formulas.specs.Symbols.{Entry}
@@ -71,15 +71,15 @@ module _ (rs : List Entry) (t : Table) where
   NoneForeign = (n : ℕ) → Foreign n → ⊥
 
   -- there is a round k, and up to it none is equal to the one before it
-  pub record Unsettled-until (k : ℕ) (L : List (List ℕ)) : Type 0 where
+  pub record UnsettledUntil (k : ℕ) (L : List (List ℕ)) : Type 0 where
     pub is : round 64 rs t k ≡ Ok L
     pub apart : (j : ℕ) → j < k → round 64 rs t (suc j) ≢ round 64 rs t j
 
   -- What an answer says. An accepted one is the least solution, at the first round equal to the one before it. The refusals, each where none before it holds: a bad allowance; a command that the rule lacks, at the first such record;
   -- a 65th clause, at the first procedure of the first such round; no settled round within the allowance.
   abbrev pub Solved : ℕ → Result Settled SolveFault → Type 0
-  Solved allowance (Ok s) = Allowed allowance × NoneForeign × (s.number ≤ allowance) × First-settled rs t 64 s.number s.formulas × Least-solution rs t s.formulas
+  Solved allowance (Ok s) = Allowed allowance × NoneForeign × (s.number ≤ allowance) × FirstSettled rs t 64 s.number s.formulas × LeastSolution rs t s.formulas
   Solved allowance (Err Allowance) = Allowed allowance → ⊥
   Solved allowance (Err (UnknownCommand n)) = Allowed allowance × Foreign n × ((i : ℕ) → i < n → Foreign i → ⊥)
-  Solved allowance (Err (TooManyClauses x)) = Allowed allowance × NoneForeign × ((k : ℕ) × (L : List (List ℕ)) × (k < allowance) × Unsettled-until k L × (next_round 64 rs t L ≡ Err x))
-  Solved allowance (Err (Unsettled n)) = Allowed allowance × NoneForeign × (n ≡ allowance) × ((L : List (List ℕ)) × Unsettled-until allowance L)
+  Solved allowance (Err (TooManyClauses x)) = Allowed allowance × NoneForeign × ((k : ℕ) × (L : List (List ℕ)) × (k < allowance) × UnsettledUntil k L × (next_round 64 rs t L ≡ Err x))
+  Solved allowance (Err (Unsettled n)) = Allowed allowance × NoneForeign × (n ≡ allowance) × ((L : List (List ℕ)) × UnsettledUntil allowance L)

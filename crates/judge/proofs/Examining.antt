@@ -53,8 +53,8 @@ module _ (bytes : List ℕ) (boxes : List ℕ) (finals : List Bool) (boxed : (c 
     differ = λ i j h l. differ i j h (cases_lt j 64) l;
   }
     where
-      old-at : (i : ℕ) → i < 64 → get_or (over.lists ++ over.more ∷ []) i [] ≡ get_or over.lists i []
-      old-at i h = get_or_append_left over.lists (over.more ∷ []) [] i (omega (arith, over.full))
+      old_at : (i : ℕ) → i < 64 → get_or (over.lists ++ over.more ∷ []) i [] ≡ get_or over.lists i []
+      old_at i h = get_or_append_left over.lists (over.more ∷ []) [] i (omega (arith, over.full))
 
       own_at : (i : ℕ) → i < 64 → Below 16 (get_or over.lists i [])
       own_at i h = All-get_or (Below 16) over.lists i [] (omega (arith, over.full)) over.own
@@ -62,11 +62,11 @@ module _ (bytes : List ℕ) (boxes : List ℕ) (finals : List Bool) (boxed : (c 
       differ : (i j : ℕ) → i < j → (j < 64) ⊎ (64 ≤ j) → j < 65 → LeadAlike bytes (get_or (over.lists ++ over.more ∷ []) i []) (get_or (over.lists ++ over.more ∷ []) j []) → ⊥
       differ i j h (inl l) _ same =
           over.differ i j h l ((charts.alike (get_or over.lists i []) (get_or over.lists j []) (own_at i (omega arith)) (own_at j l)).1
-          (subst (λ u. LeadAlike bytes u (get_or over.lists j [])) (old-at i (omega arith)) (subst (LeadAlike bytes (get_or (over.lists ++ over.more ∷ []) i [])) (old-at j l) same)))
+          (subst (λ u. LeadAlike bytes u (get_or over.lists j [])) (old_at i (omega arith)) (subst (LeadAlike bytes (get_or (over.lists ++ over.more ∷ []) i [])) (old_at j l) same)))
       differ i j h (inr l) k same =
           let e : get_or (over.lists ++ over.more ∷ []) j [] ≡ over.more = get_or_push over.lists over.more [] j (let z : length over.lists ≡ j = omega (arith, over.full) in z) in
           over.more_differs i (omega arith) ((charts.alike (get_or over.lists i []) over.more (own_at i (omega arith)) over.more_own).1
-          (subst (λ u. LeadAlike bytes u over.more) (old-at i (omega arith)) (subst (LeadAlike bytes (get_or (over.lists ++ over.more ∷ []) i [])) e same)))
+          (subst (λ u. LeadAlike bytes u over.more) (old_at i (omega arith)) (subst (LeadAlike bytes (get_or (over.lists ++ over.more ∷ []) i [])) e same)))
 
   -- the table's fault on the way up, where the records were read
   pub refused : (procs : Option (List ℕ)) (p : List ℕ) (rs : List Entry) → procs ≡ Some p → Read p (Ok rs) → (old new : List ℕ) (r : Result EffectTable EffectsFault) (f : EffectsFault) → 64 ≤ length old → Surveyed (charted boxes finals) old new r → r ≡ Err f → Reported bytes procs (Err (Effects f))

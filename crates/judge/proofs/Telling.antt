@@ -33,19 +33,19 @@ rises_push n xs r = record { below = λ k h. below k h (cases_lt k (length xs));
     more : length (xs ++ n ∷ []) ≡ length xs + 1
     more = length_push xs n
 
-    old-at : (k : ℕ) → k < length xs → get_or (xs ++ n ∷ []) k 0 ≡ get_or xs k 0
-    old-at k h = get_or_append_left xs (n ∷ []) 0 k h
+    old_at : (k : ℕ) → k < length xs → get_or (xs ++ n ∷ []) k 0 ≡ get_or xs k 0
+    old_at k h = get_or_append_left xs (n ∷ []) 0 k h
 
-    new-at : (k : ℕ) → length xs ≡ k → get_or (xs ++ n ∷ []) k 0 ≡ n
-    new-at k h = get_or_push xs n 0 k h
+    new_at : (k : ℕ) → length xs ≡ k → get_or (xs ++ n ∷ []) k 0 ≡ n
+    new_at k h = get_or_push xs n 0 k h
 
     below : (k : ℕ) → k < length (xs ++ n ∷ []) → (k < length xs) ⊎ (length xs ≤ k) → get_or (xs ++ n ∷ []) k 0 < suc n
-    below k h (inl l) = omega (arith, old-at k l, r.below k l)
-    below k h (inr l) = omega (arith, new-at k (omega (arith, more)))
+    below k h (inl l) = omega (arith, old_at k l, r.below k l)
+    below k h (inr l) = omega (arith, new_at k (omega (arith, more)))
 
     climbs : (k : ℕ) → k + 1 < length (xs ++ n ∷ []) → (k + 1 < length xs) ⊎ (length xs ≤ k + 1) → get_or (xs ++ n ∷ []) k 0 < get_or (xs ++ n ∷ []) (k + 1) 0
-    climbs k h (inl l) = omega (arith, old-at k (omega arith), old-at (k + 1) l, r.climbs k l)
-    climbs k h (inr l) = omega (arith, old-at k (omega (arith, more)), r.below k (omega (arith, more)), new-at (k + 1) (omega (arith, more)))
+    climbs k h (inl l) = omega (arith, old_at k (omega arith), old_at (k + 1) l, r.climbs k l)
+    climbs k h (inr l) = omega (arith, old_at k (omega (arith, more)), r.below k (omega (arith, more)), new_at (k + 1) (omega (arith, more)))
 
 -- ---- the rows of the procedures below n
 

@@ -20,7 +20,7 @@ place_map f same i (u ∷ us) w = ap (cond (same (f u) (f w)) (Some i)) (place_m
 -- s is a survey of the images of what t surveys, where Ok holds
 module _ {A B : Type 0} (f : A → B) (t : Scheme A) (s : Scheme B) (Ok : A → Type 0)
     (room : s.room ≡ t.room) (same : (u v : A) → s.same (f u) (f v) ≡ t.same u v) (first : s.first ≡ f t.first)
-    (ok-first : Ok t.first) (ok-next : (w : A) (c : ℕ) → Ok w → c < t.commands → Ok (t.next w c))
+    (ok_first : Ok t.first) (ok_next : (w : A) (c : ℕ) → Ok w → c < t.commands → Ok (t.next w c))
     (next : (w : A) (c : ℕ) → Ok w → c < t.commands → s.next (f w) c ≡ f (t.next w c)) where
   place_image : (i : ℕ) (us : List A) (w : A) → place s.same i (map f us) (f w) ≡ place t.same i us w
   place_image i [] w = refl
@@ -67,7 +67,7 @@ module _ {A B : Type 0} (f : A → B) (t : Scheme A) (s : Scheme B) (Ok : A → 
           ∙ ap (λ k. then_on (row s k 0 (map f us) (f x)) (λ r. walk s n (i + 1) r)) commands
           ∙ ap (λ y. then_on y (λ r. walk s n (i + 1) r)) (row_image t.commands 0 us x (omega arith) ok)
           ∙ on_image (row t t.commands 0 us x) (λ r. walk s n (i + 1) r) (λ r. walk t n (i + 1) r)
-          (λ more p. ih more (subst (λ y. All Ok (entries y)) p ((row_grows t Ok t.commands 0 us x (λ c h. ok-next x c ok (omega arith))).all a)))
+          (λ more p. ih more (subst (λ y. All Ok (entries y)) p ((row_grows t Ok t.commands 0 us x (λ c h. ok_next x c ok (omega arith))).all a)))
 
 module _ {E : Type 0} (m : Meaning E) (law : Lawful m) where
   pub met_by_lists : met_effects m ≡ mapped (effect m) (met_lists (behaviour m))
@@ -112,21 +112,21 @@ module _ {E : Type 0} (m : Meaning E) (law : Lawful m) where
   below_counting a (suc n) C h = (omega arith, below_counting (a + 1) n C (omega arith))
 
   module _ (ws : List (List ℕ)) (own : All (Below m.commands) ws) where
-    numbered-image : (w : List ℕ) → numbered m.same (map (effect m) ws) (effect m w) ≡ numbered (behaviour m).same ws w
-    numbered-image w = ap found (place_map (effect m) m.same 0 ws w)
+    numbered_image : (w : List ℕ) → numbered m.same (map (effect m) ws) (effect m w) ≡ numbered (behaviour m).same ws w
+    numbered_image w = ap found (place_map (effect m) m.same 0 ws w)
 
     row_is : (u : List ℕ) → Below m.commands u → join_row m.same m.join (map (effect m) ws) (effect m u) ≡ join_row (behaviour m).same ◌++◌ ws u
     row_is u o =
         map_map (effect m) (λ y. numbered m.same (map (effect m) ws) (m.join (effect m u) y)) ws
         ∙ map_same (Below m.commands) (λ v. numbered m.same (map (effect m) ws) (m.join (effect m u) (effect m v))) (λ v. numbered (behaviour m).same ws (u ++ v)) ws own
-        (λ v p. ap (numbered m.same (map (effect m) ws)) (sym (effect-append m law u v o p)) ∙ numbered-image (u ++ v))
+        (λ v p. ap (numbered m.same (map (effect m) ws)) (sym (effect-append m law u v o p)) ∙ numbered_image (u ++ v))
 
-    pub table-by-lists : effects_table m (map (effect m) ws) ≡ lists_table (behaviour m) ws
-    table-by-lists =
+    pub table_by_lists : effects_table m (map (effect m) ws) ≡ lists_table (behaviour m) ws
+    table_by_lists =
         let n : length (map (effect m) ws) ≡ length ws = length-map ws (effect m) in
         let ns : map (λ c. numbered m.same (map (effect m) ws) (m.command c)) (range_with_len 0 m.commands) ≡ map (λ c. numbered (behaviour m).same ws (c ∷ [])) (range_with_len 0 m.commands) =
         map_same (λ c. c < m.commands) (λ c. numbered m.same (map (effect m) ws) (m.command c)) (λ c. numbered (behaviour m).same ws (c ∷ [])) (range_with_len 0 m.commands) (below_counting 0 m.commands m.commands (omega arith))
-        (λ c h. ap (numbered m.same (map (effect m) ws)) (sym (law.right (m.command c) (law.own_command c h))) ∙ numbered-image (c ∷ [])) in
+        (λ c h. ap (numbered m.same (map (effect m) ws)) (sym (law.right (m.command c) (law.own_command c h))) ∙ numbered_image (c ∷ [])) in
         let js : map (join_row m.same m.join (map (effect m) ws)) (map (effect m) ws) ≡ map (join_row (behaviour m).same ◌++◌ ws) ws =
         map_map (effect m) (join_row m.same m.join (map (effect m) ws)) ws
         ∙ map_same (Below m.commands) (λ u. join_row m.same m.join (map (effect m) ws) (effect m u)) (join_row (behaviour m).same ◌++◌ ws) ws own row_is in

@@ -95,11 +95,11 @@ module _ (b : Behaviour) (law : LawfulBehaviour b) where
     abbrev new : List ℕ
     new = get_or reg i [] ++ c ∷ []
 
-    new-own : Below b.commands new
-    new-own = All-push (λ k. k < b.commands) (get_or reg i []) c (All-get_or (Below b.commands) reg i [] here s.own) lt
+    new_own : Below b.commands new
+    new_own = All-push (λ k. k < b.commands) (get_or reg i []) c (All-get_or (Below b.commands) reg i [] here s.own) lt
 
-    state-known : Known reg (length reg) new → State i (c + 1) reg
-    state-known k = record {
+    state_known : Known reg (length reg) new → State i (c + 1) reg
+    state_known k = record {
       some = s.some;
       few = s.few;
       own = s.own;
@@ -126,39 +126,39 @@ module _ (b : Behaviour) (law : LawfulBehaviour b) where
       last : get_or more (length reg) [] ≡ new
       last = get_or_push reg new [] (length reg) refl
 
-      known-later : (n k : ℕ) (j e : ℕ) → n ≤ length reg → n ≤ k → j < length reg → Known reg n (get_or reg j [] ++ e ∷ []) → Known more k (get_or more j [] ++ e ∷ [])
-      known-later n k j e h g l (x, lx, t) = (
+      known_later : (n k : ℕ) (j e : ℕ) → n ≤ length reg → n ≤ k → j < length reg → Known reg n (get_or reg j [] ++ e ∷ []) → Known more k (get_or more j [] ++ e ∷ [])
+      known_later n k j e h g l (x, lx, t) = (
         x,
         omega arith,
         subst (λ u. b.same (get_or more x []) (u ++ e ∷ []) ≡ true) (sym (old j l))
             (subst (λ u. b.same u (get_or reg j [] ++ e ∷ []) ≡ true) (sym (old x (omega arith))) t),
       )
 
-      met-later : (n : ℕ) → n < length reg → Met reg n → Met more n
-      met-later n h m = record {
+      met_later : (n : ℕ) → n < length reg → Met reg n → Met more n
+      met_later n h m = record {
         after = m.after;
         by = m.by;
         earlier = m.earlier;
         command = m.command;
         is = old n h ∙ m.is ∙ ap (λ u. u ++ m.by ∷ []) (sym (old m.after (omega (arith, m.earlier))));
-        before = λ j e l p. known-later n n j e (omega arith) (omega arith) (omega (arith, before_le j e m.after m.by p, m.earlier)) (m.before j e l p);
+        before = λ j e l p. known_later n n j e (omega arith) (omega arith) (omega (arith, before_le j e m.after m.by p, m.earlier)) (m.before j e l p);
       }
 
-      met-new : Met more (length reg)
-      met-new = record {
+      met_new : Met more (length reg)
+      met_new = record {
         after = i;
         by = c;
         earlier = here;
         command = lt;
         is = last ∙ ap (λ u. u ++ c ∷ []) (sym (old i here));
-        before = λ j e l p. let lj : j < length reg = omega (arith, before_le j e i c p) in known-later (length reg) (length reg) j e (omega arith) (omega arith) lj (s.closed j e lj l p);
+        before = λ j e l p. let lj : j < length reg = omega (arith, before_le j e i c p) in known_later (length reg) (length reg) j e (omega arith) (omega arith) lj (s.closed j e lj l p);
       }
 
-      state-new : State i (c + 1) more
-      state-new = record {
+      state_new : State i (c + 1) more
+      state_new = record {
         some = omega (arith, size);
         few = omega (arith, size);
-        own = All-push (Below b.commands) reg new s.own new-own;
+        own = All-push (Below b.commands) reg new s.own new_own;
         first = old 0 s.some ∙ s.first;
         apart = λ k l h g. apart k l h (cases_lt l (length reg)) g;
         closed = λ j e h l p. closed j e l (before_more j e i c p);
@@ -175,7 +175,7 @@ module _ (b : Behaviour) (law : LawfulBehaviour b) where
 
           closed : (j e : ℕ) → e < b.commands → Before j e i c ⊎ ((j ≡ i) × (e ≡ c)) → Known more (length more) (get_or more j [] ++ e ∷ [])
           closed j e l (inl p) = let lj : j < length reg = omega (arith, before_le j e i c p) in
-              known-later (length reg) (length more) j e (omega arith) (omega (arith, size)) lj (s.closed j e lj l p)
+              known_later (length reg) (length more) j e (omega arith) (omega (arith, size)) lj (s.closed j e lj l p)
           closed j e l (inr (p, q)) = (
             length reg,
             omega (arith, size),
@@ -183,12 +183,12 @@ module _ (b : Behaviour) (law : LawfulBehaviour b) where
                 ∙ ap (λ x. b.same new (get_or more x [] ++ e ∷ [])) p
                 ∙ ap (λ u. b.same new (u ++ e ∷ [])) (old i here)
                 ∙ ap (λ x. b.same new (get_or reg i [] ++ x ∷ [])) q
-                ∙ law.reflexive new new-own,
+                ∙ law.reflexive new new_own,
           )
 
           order : (n : ℕ) → 0 < n → (n < length reg) ⊎ (length reg ≤ n) → n < length more → Met more n
-          order n h (inl g) _ = met-later n g (s.order n h g)
-          order n h (inr g) q = let e : length reg ≡ n = omega (arith, size) in subst (Met more) e met-new
+          order n h (inl g) _ = met_later n g (s.order n h g)
+          order n h (inr g) q = let e : length reg ≡ n = omega (arith, size) in subst (Met more) e met_new
 
   -- ---- what a survey comes to
 
@@ -218,15 +218,15 @@ module _ (b : Behaviour) (law : LawfulBehaviour b) where
   enters i c reg here lt s = go (place b.same 0 reg (get_or reg i [] ++ c ∷ [])) (placed b.same [] 0 reg (get_or reg i [] ++ c ∷ []))
     where
       full : Missing b.same [] reg (get_or reg i [] ++ c ∷ []) → 64 ≤ length reg → Overfull reg (get_or reg i [] ++ c ∷ [])
-      full m h = record { size = omega (arith, s.few); own = s.own; apart = s.apart; more_own = new-own i c reg here lt s; missing = m }
+      full m h = record { size = omega (arith, s.few); own = s.own; apart = s.apart; more_own = new_own i c reg here lt s; missing = m }
 
       by : (t : Bool) → ltb (length reg) 64 ≡ t → Missing b.same [] reg (get_or reg i [] ++ c ∷ []) → Comes reg (State i (c + 1)) (cond t (complete (reg ++ (get_or reg i [] ++ c ∷ []) ∷ [])) (overfull reg (get_or reg i [] ++ c ∷ [])))
       by true e m = let h = ltb-true (length reg) 64 e in
-          (record { longer = omega (arith, length_push reg (get_or reg i [] ++ c ∷ [])); old = old i c reg here lt s m h }, state-new i c reg here lt s m h)
+          (record { longer = omega (arith, length_push reg (get_or reg i [] ++ c ∷ [])); old = old i c reg here lt s m h }, state_new i c reg here lt s m h)
       by false e m = full m (ltb-false (length reg) 64 e)
 
       go : (o : Option ℕ) → Placed b.same [] 0 reg (get_or reg i [] ++ c ∷ []) o → Comes reg (State i (c + 1)) (entered_at 64 reg (get_or reg i [] ++ c ∷ []) o)
-      go (Some k) (j, (e, f)) = (longer_not reg, state-known i c reg here lt s (j, f.below, f.alike))
+      go (Some k) (j, (e, f)) = (longer_not reg, state_known i c reg here lt s (j, f.below, f.alike))
       go None m = by (ltb (length reg) 64) refl m
 
   rows : (n i c : ℕ) (reg : List (List ℕ)) (w : List ℕ) → c + n ≡ b.commands → i < length reg → w ≡ get_or reg i [] → State i c reg → Comes reg (State i b.commands) (row (of_lists b) n c reg w)

@@ -130,8 +130,8 @@ module _ {E : Type 0} (s : Scheme E) where
     abbrev reg : List E
     reg = take count xs
 
-    reg-length : length (take count xs) ≡ count
-    reg-length = length-take-le count xs (omega arith)
+    reg_length : length (take count xs) ≡ count
+    reg_length = length-take-le count xs (omega arith)
 
     -- what the two clauses of a call of `enter` say
     abbrev pub Enters : List E → Option ℕ → Type 0
@@ -141,27 +141,27 @@ module _ {E : Type 0} (s : Scheme E) where
         → (r ≡ outcome (entered_at s.room (take count xs) e o)) × (new ≡ written (entries (entered_at s.room (take count xs) e o)) xs) → Enters new r
     at_place o p new r = subst (λ y. (r ≡ outcome (entered_at s.room (take count xs) e y)) × (new ≡ written (entries (entered_at s.room (take count xs) e y)) xs)) p
 
-    same-slice : xs ≡ written (take count xs) xs
-    same-slice = sym (ap (λ k. take count xs ++ drop k xs) reg-length ∙ take-append-drop count xs)
+    same_slice : xs ≡ written (take count xs) xs
+    same_slice = sym (ap (λ k. take count xs ++ drop k xs) reg_length ∙ take-append-drop count xs)
 
-    pub enters-known : (o : Option ℕ) → o ≡ place s.same 0 (take count xs) e → is_some o ≡ true → Enters xs (Some count)
-    enters-known (Some i) p t = at_place (Some i) p xs (Some count) (ap Some (sym reg-length), same-slice)
-    enters-known None p t = absurd (both_ways false refl t)
+    pub enters_known : (o : Option ℕ) → o ≡ place s.same 0 (take count xs) e → is_some o ≡ true → Enters xs (Some count)
+    enters_known (Some i) p t = at_place (Some i) p xs (Some count) (ap Some (sym reg_length), same_slice)
+    enters_known None p t = absurd (both_ways false refl t)
 
-    by-room : (b : Bool) → ltb (length (take count xs)) s.room ≡ b → (new : List E) (r : Option ℕ)
+    by_room : (b : Bool) → ltb (length (take count xs)) s.room ≡ b → (new : List E) (r : Option ℕ)
         → (r ≡ outcome (cond b (complete (take count xs ++ e ∷ [])) (overfull (take count xs) e))) × (new ≡ written (entries (cond b (complete (take count xs ++ e ∷ [])) (overfull (take count xs) e))) xs)
         → None ≡ place s.same 0 (take count xs) e → Enters new r
-    by-room b t new r h p = at_place None p new r (subst (λ y. (r ≡ outcome (cond y (complete (take count xs ++ e ∷ [])) (overfull (take count xs) e))) × (new ≡ written (entries (cond y (complete (take count xs ++ e ∷ [])) (overfull (take count xs) e))) xs)) (sym t) h)
+    by_room b t new r h p = at_place None p new r (subst (λ y. (r ≡ outcome (cond y (complete (take count xs ++ e ∷ [])) (overfull (take count xs) e))) × (new ≡ written (entries (cond y (complete (take count xs ++ e ∷ [])) (overfull (take count xs) e))) xs)) (sym t) h)
 
-    pub enters-not : (o : Option ℕ) → o ≡ place s.same 0 (take count xs) e → is_some o ≡ false → s.room ≤ count → Enters xs None
-    enters-not (Some i) p t h = absurd (both_ways false refl (sym t))
-    enters-not None p t h = by-room false (le-ltb (length (take count xs)) s.room (omega (arith, reg-length))) xs None (refl, same-slice) p
+    pub enters_not : (o : Option ℕ) → o ≡ place s.same 0 (take count xs) e → is_some o ≡ false → s.room ≤ count → Enters xs None
+    enters_not (Some i) p t h = absurd (both_ways false refl (sym t))
+    enters_not None p t h = by_room false (le-ltb (length (take count xs)) s.room (omega (arith, reg_length))) xs None (refl, same_slice) p
 
-    pub enters-new : (o : Option ℕ) → o ≡ place s.same 0 (take count xs) e → is_some o ≡ false → count < s.room → Enters (set xs count e) (Some (count + 1))
-    enters-new (Some i) p t h = absurd (both_ways false refl (sym t))
-    enters-new None p t h =
-        let k : length (take count xs ++ e ∷ []) ≡ count + 1 = length_push (take count xs) e ∙ ap (λ j. j + 1) reg-length in
-        by-room true (lt-ltb (length (take count xs)) s.room (omega (arith, reg-length))) (set xs count e) (Some (count + 1)) (
+    pub enters_new : (o : Option ℕ) → o ≡ place s.same 0 (take count xs) e → is_some o ≡ false → count < s.room → Enters (set xs count e) (Some (count + 1))
+    enters_new (Some i) p t h = absurd (both_ways false refl (sym t))
+    enters_new None p t h =
+        let k : length (take count xs ++ e ∷ []) ≡ count + 1 = length_push (take count xs) e ∙ ap (λ j. j + 1) reg_length in
+        by_room true (lt-ltb (length (take count xs)) s.room (omega (arith, reg_length))) (set xs count e) (Some (count + 1)) (
           ap Some (sym k),
           Rattle.std.proofs.lemmas.List.set_split xs count e (omega arith) ∙ sym (append_assoc (take count xs) (e ∷ []) (drop (suc count) xs))
               ∙ ap (λ j. (take count xs ++ e ∷ []) ++ drop j xs) (sym (k ∙ add-one count)),
@@ -212,10 +212,10 @@ module _ {E : Type 0} (s : Scheme E) where
 
   module _ (own : E → Type 0) (old xs new : List E) (n : ℕ) (whole : Survey E) (room : s.room ≤ length old) where
     -- a step that ended with a number
-    step-on : (rest next : List E → Survey E) (at : Stands own old xs n rest whole) (x : Survey E) (k : ℕ)
+    step_on : (rest next : List E → Survey E) (at : Stands own old xs n rest whole) (x : Survey E) (k : ℕ)
         → Grows own at.reg (entries x) → ((more : List E) → x ≡ complete more → rest at.reg ≡ next more)
         → Some k ≡ outcome x → new ≡ written (entries x) xs → Stands own old new k next whole
-    step-on rest next at x k grows onward r is =
+    step_on rest next at x k grows onward r is =
         let a = answered x k r in
         let g : Grows own at.reg a.0 = subst (λ y. Grows own at.reg (entries y)) a.1 grows in
         let h = at.holds in
@@ -231,10 +231,10 @@ module _ {E : Type 0} (s : Scheme E) where
         }
 
     -- a step that found no place
-    step-off : (rest : List E → Survey E) (at : Stands own old xs n rest whole) (x : Survey E)
+    step_off : (rest : List E → Survey E) (at : Stands own old xs n rest whole) (x : Survey E)
         → Grows own at.reg (entries x) → ((full : List E) (f : E) → x ≡ overfull full f → rest at.reg ≡ overfull full f)
         → None ≡ outcome x → new ≡ written (entries x) xs → Answers old whole new None
-    step-off rest at x grows stops r is =
+    step_off rest at x grows stops r is =
         let a = unanswered x r in
         let e : whole ≡ overfull a.0 a.1.0 = sym at.gives ∙ stops a.0 a.1.0 a.1.1 in
         let g : Grows own at.reg a.0 = subst (λ y. Grows own at.reg (entries y)) a.1.1 grows in (
@@ -253,11 +253,11 @@ module _ {E : Type 0} (s : Scheme E) where
     module _ (C c : ℕ) (from : E) (lt : c < C) (fits : own (s.next from c)) (at : Stands own old xs n (λ reg. row s (C - c) c reg from) whole) where
       pub row_step : (k : ℕ) → Some k ≡ outcome (entered s at.reg (s.next from c)) → new ≡ written (entries (entered s at.reg (s.next from c))) xs
           → Stands own old new k (λ reg. row s (C - (c + 1)) (c + 1) reg from) whole
-      row_step k = step-on own old xs new n whole room (λ reg. row s (C - c) c reg from) (λ reg. row s (C - (c + 1)) (c + 1) reg from) at (entered s at.reg (s.next from c)) k
+      row_step k = step_on own old xs new n whole room (λ reg. row s (C - c) c reg from) (λ reg. row s (C - (c + 1)) (c + 1) reg from) at (entered s at.reg (s.next from c)) k
           (entered_grows own at.reg (s.next from c) fits) (λ more p. row_more C c at.reg more from lt p)
 
-      pub row-off : None ≡ outcome (entered s at.reg (s.next from c)) → new ≡ written (entries (entered s at.reg (s.next from c))) xs → Answers old whole new None
-      row-off = step-off own old xs new n whole room (λ reg. row s (C - c) c reg from) at (entered s at.reg (s.next from c))
+      pub row_off : None ≡ outcome (entered s at.reg (s.next from c)) → new ≡ written (entries (entered s at.reg (s.next from c))) xs → Answers old whole new None
+      row_off = step_off own old xs new n whole room (λ reg. row s (C - c) c reg from) at (entered s at.reg (s.next from c))
           (entered_grows own at.reg (s.next from c) fits) (λ full f p. row_stop C c at.reg full from f lt p)
 
     module _ (i : ℕ) (lt : i < n) (fits : (e : E) → own e → (k : ℕ) → k < s.commands → own (s.next e k)) (at : Stands own old xs n (λ reg. walk s (s.room - i) i reg) whole) where
@@ -270,11 +270,11 @@ module _ {E : Type 0} (s : Scheme E) where
 
       pub walk_step : (k : ℕ) → Some k ≡ outcome (row s s.commands 0 at.reg (get_or at.reg i s.first)) → new ≡ written (entries (row s s.commands 0 at.reg (get_or at.reg i s.first))) xs
           → Stands own old new k (λ reg. walk s (s.room - (i + 1)) (i + 1) reg) whole
-      walk_step k = step-on own old xs new n whole room (λ reg. walk s (s.room - i) i reg) (λ reg. walk s (s.room - (i + 1)) (i + 1) reg) at (row s s.commands 0 at.reg (get_or at.reg i s.first)) k
+      walk_step k = step_on own old xs new n whole room (λ reg. walk s (s.room - i) i reg) (λ reg. walk s (s.room - (i + 1)) (i + 1) reg) at (row s s.commands 0 at.reg (get_or at.reg i s.first)) k
           grown (λ more p. walk_more i at.reg more (omega (arith, at.holds.few)) here p)
 
-      pub walk-off : None ≡ outcome (row s s.commands 0 at.reg (get_or at.reg i s.first)) → new ≡ written (entries (row s s.commands 0 at.reg (get_or at.reg i s.first))) xs → Answers old whole new None
-      walk-off = step-off own old xs new n whole room (λ reg. walk s (s.room - i) i reg) at (row s s.commands 0 at.reg (get_or at.reg i s.first))
+      pub walk_off : None ≡ outcome (row s s.commands 0 at.reg (get_or at.reg i s.first)) → new ≡ written (entries (row s s.commands 0 at.reg (get_or at.reg i s.first))) xs → Answers old whole new None
+      walk_off = step_off own old xs new n whole room (λ reg. walk s (s.room - i) i reg) at (row s s.commands 0 at.reg (get_or at.reg i s.first))
           grown (λ full f p. walk_stop i at.reg full f (omega (arith, at.holds.few)) here p)
 
   pub row_done : (own : E → Type 0) (old new : List E) (n : ℕ) (whole : Survey E) (C c : ℕ) (from : E) → C ≤ c → Stands own old new n (λ reg. row s (C - c) c reg from) whole → Answers old whole new (Some n)

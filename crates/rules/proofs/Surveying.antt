@@ -5,7 +5,7 @@ use Rattle.std.proofs.ByRecursion.{All-get_or}
 use Rattle.std.proofs.lemmas.List.{drop-set-lt, get_or_read, get_or-take, length-set}
 use Rattle.rules.specs.Meaning.{Meaning, Lawful}
 use Rattle.rules.specs.Register.{Onward, place, Survey, entries, outcome, entered, row, walk, written, of_effects, met_effects}
-use Rattle.rules.proofs.Registering.{place_here, place_past, place_end, Stands, Answers, front, long, holds_front, row_step, row-off, row_done, walk_step, walk-off, walk_done, walk_longer}
+use Rattle.rules.proofs.Registering.{place_here, place_past, place_end, Stands, Answers, front, long, holds_front, row_step, row_off, row_done, walk_step, walk_off, walk_done, walk_longer}
 
 module _ {E : Type 0} (m : Meaning E) (law : Lawful m) where
   -- ---- looking for an effect, from number i on
@@ -17,11 +17,11 @@ module _ {E : Type 0} (m : Meaning E) (law : Lawful m) where
     same_is : r ≡ m.same x e
     same_is = told (subst m.own (sym is) (All-get_or m.own met i x h own)) o
 
-    pub looks-more : r ≡ false → Looks met e (i + 1)
-    looks-more t = sym (place_past m.same met i x e h is (sym same_is ∙ t)) ∙ at
+    pub looks_more : r ≡ false → Looks met e (i + 1)
+    looks_more t = sym (place_past m.same met i x e h is (sym same_is ∙ t)) ∙ at
 
-    pub looks-here : r ≡ true → Some i ≡ place m.same 0 met e
-    looks-here t = sym (place_here m.same met i x e h is (sym same_is ∙ t)) ∙ at
+    pub looks_here : r ≡ true → Some i ≡ place m.same 0 met e
+    looks_here t = sym (place_here m.same met i x e h is (sym same_is ∙ t)) ∙ at
 
   pub looks_end : (met : List E) (e : E) (i : ℕ) → length met ≤ i → Looks met e i → None ≡ place m.same 0 met e
   looks_end met e i h at = sym (place_end m.same met i e h) ∙ at
@@ -70,8 +70,8 @@ module _ {E : Type 0} (m : Meaning E) (law : Lawful m) where
     rows_more k r w = row_step (of_effects m) m.own old xs new n whole room m.commands c from step.known (next_own from own c step.known) at k
         (r ∙ ap outcome same_step) (w ∙ ap (λ x. written (entries x) xs) same_step)
 
-    pub rows-off : None ≡ outcome (entered (of_effects m) (take n xs) to) → new ≡ written (entries (entered (of_effects m) (take n xs) to)) xs → Answers (of_effects m) old whole new None
-    rows-off r w = row-off (of_effects m) m.own old xs new n whole room m.commands c from step.known (next_own from own c step.known) at
+    pub rows_off : None ≡ outcome (entered (of_effects m) (take n xs) to) → new ≡ written (entries (entered (of_effects m) (take n xs) to)) xs → Answers (of_effects m) old whole new None
+    rows_off r w = row_off (of_effects m) m.own old xs new n whole room m.commands c from step.known (next_own from own c step.known) at
         (r ∙ ap outcome same_step) (w ∙ ap (λ x. written (entries x) xs) same_step)
 
   pub rows_end : (old new : List E) (n c : ℕ) (from : E) (whole : Survey E) → m.commands ≤ c → Rows old new n c from whole → Answers (of_effects m) old whole new (Some n)
@@ -100,8 +100,8 @@ module _ {E : Type 0} (m : Meaning E) (law : Lawful m) where
         get_or_read xs i from (omega (arith, long m.own 64 old xs at.reg n room at.holds, at.holds.few)) is m.neutral
         ∙ sym (get_or-take n xs i m.neutral lt) ∙ ap (λ l. get_or l i m.neutral) (front m.own 64 old xs at.reg n at.holds)
 
-    pub walks-own : m.own from
-    walks-own = subst m.own (sym here) (All-get_or m.own at.reg i m.neutral (omega (arith, at.holds.count)) at.holds.all)
+    pub walks_own : m.own from
+    walks_own = subst m.own (sym here) (All-get_or m.own at.reg i m.neutral (omega (arith, at.holds.count)) at.holds.all)
 
     same_row : row (of_effects m) m.commands 0 (take n xs) from ≡ row (of_effects m) m.commands 0 at.reg (get_or at.reg i m.neutral)
     same_row = ap (λ l. row (of_effects m) m.commands 0 l from) (front m.own 64 old xs at.reg n at.holds) ∙ ap (row (of_effects m) m.commands 0 at.reg) here
@@ -109,8 +109,8 @@ module _ {E : Type 0} (m : Meaning E) (law : Lawful m) where
     pub walks_more : (k : ℕ) → Some k ≡ outcome (row (of_effects m) m.commands 0 (take n xs) from) → new ≡ written (entries (row (of_effects m) m.commands 0 (take n xs) from)) xs → Walks old new k (i + 1) whole
     walks_more k r w = walk_step (of_effects m) m.own old xs new n whole room i lt next_own at k (r ∙ ap outcome same_row) (w ∙ ap (λ x. written (entries x) xs) same_row)
 
-    pub walks-off : None ≡ outcome (row (of_effects m) m.commands 0 (take n xs) from) → new ≡ written (entries (row (of_effects m) m.commands 0 (take n xs) from)) xs → Answers (of_effects m) old whole new None
-    walks-off r w = walk-off (of_effects m) m.own old xs new n whole room i lt next_own at (r ∙ ap outcome same_row) (w ∙ ap (λ x. written (entries x) xs) same_row)
+    pub walks_off : None ≡ outcome (row (of_effects m) m.commands 0 (take n xs) from) → new ≡ written (entries (row (of_effects m) m.commands 0 (take n xs) from)) xs → Answers (of_effects m) old whole new None
+    walks_off r w = walk_off (of_effects m) m.own old xs new n whole room i lt next_own at (r ∙ ap outcome same_row) (w ∙ ap (λ x. written (entries x) xs) same_row)
 
   pub walks_end : (old new : List E) (n i : ℕ) (whole : Survey E) → n ≤ i → Walks old new n i whole → Answers (of_effects m) old whole new (Some n)
   walks_end old new n i whole h at = walk_done (of_effects m) m.own old new n i whole h at

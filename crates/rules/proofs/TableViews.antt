@@ -15,7 +15,7 @@ use Rattle.rules.specs.Register.{Survey, complete, overfull, entries, outcome, m
 use Rattle.rules.specs.Surveys.{tabled, tabled_by, slice_after, AllMet}
 use Rattle.rules.specs.Tables.{join_of, numbered, effects_table, lists_table}
 use Rattle.rules.specs.Views.{table_from, NumbersSome}
-use Rattle.rules.proofs.ByLists.{lawful_behaviour, met_by_lists, table-by-lists}
+use Rattle.rules.proofs.ByLists.{lawful_behaviour, met_by_lists, table_by_lists}
 use Rattle.rules.proofs.Meetings.{Closed, Ends, Overfull, meets}
 use Rattle.rules.proofs.TableNumbers.{numbers, slice_numbered, slice_exceeds}
 use Rattle.rules.proofs.Tabling.{closed_lists}
@@ -69,11 +69,11 @@ module _ {E : Type 0} (m : Meaning E) (law : Lawful m) (old new : List E) (room 
   enough = le-ltb (length old) 64 room
 
   entries_are : (x : Survey (List ℕ)) → met_lists (behaviour m) ≡ x → new ≡ written (map (effect m) (entries x)) old
-  entries_are x e = is ∙ ap (λ y. written (entries y) old) (met_by_lists m law ∙ ap (mapped (effect m)) e) ∙ ap (λ l. written l old) (of-mapped x)
+  entries_are x e = is ∙ ap (λ y. written (entries y) old) (met_by_lists m law ∙ ap (mapped (effect m)) e) ∙ ap (λ l. written l old) (of_mapped x)
     where
-      of-mapped : (y : Survey (List ℕ)) → entries (mapped (effect m) y) ≡ map (effect m) (entries y)
-      of-mapped (complete ws) = refl
-      of-mapped (overfull ws w) = refl
+      of_mapped : (y : Survey (List ℕ)) → entries (mapped (effect m) y) ≡ map (effect m) (entries y)
+      of_mapped (complete ws) = refl
+      of_mapped (overfull ws w) = refl
 
   pub slice_is : new ≡ slice_after m old
   slice_is = entries_are (met_lists (behaviour m)) refl ∙ sym (cond-false (ltb (length old) 64) old (written (map (effect m) (entries (met_lists (behaviour m)))) old) enough)
@@ -96,37 +96,37 @@ module _ {E : Type 0} (m : Meaning E) (law : Lawful m) (old new : List E) (room 
 
   module _ (n : ℕ) (some : Some n ≡ outcome (met_effects m)) where
     -- the lists by which the effects were met
-    found-lists : (ws : List (List ℕ)) × ((met_lists (behaviour m) ≡ complete ws) × (n ≡ length ws))
-    found-lists = complete_from (effect m) (met_lists (behaviour m)) n (some ∙ ap outcome (met_by_lists m law))
+    found_lists : (ws : List (List ℕ)) × ((met_lists (behaviour m) ≡ complete ws) × (n ≡ length ws))
+    found_lists = complete_from (effect m) (met_lists (behaviour m)) n (some ∙ ap outcome (met_by_lists m law))
 
-    closed : Closed (behaviour m) (lawful_behaviour m law) found-lists.0
-    closed = closed_lists m law found-lists.0 found-lists.1.0
+    closed : Closed (behaviour m) (lawful_behaviour m law) found_lists.0
+    closed = closed_lists m law found_lists.0 found_lists.1.0
 
-    met-front : take n new ≡ map (effect m) found-lists.0
-    met-front =
-        ap (take n) (entries_are (complete found-lists.0) found-lists.1.0)
-        ∙ take_at (map (effect m) found-lists.0) _ n (length-map found-lists.0 (effect m) ∙ sym found-lists.1.1)
+    met_front : take n new ≡ map (effect m) found_lists.0
+    met_front =
+        ap (take n) (entries_are (complete found_lists.0) found_lists.1.0)
+        ∙ take_at (map (effect m) found_lists.0) _ n (length-map found_lists.0 (effect m) ∙ sym found_lists.1.1)
 
     -- the part of the slice, as the code takes it
-    part-is : take (n - 0) new ≡ map (effect m) found-lists.0
-    part-is = let e : n - 0 ≡ n = omega arith in ap (λ k. take k new) e ∙ met-front
+    part_is : take (n - 0) new ≡ map (effect m) found_lists.0
+    part_is = let e : n - 0 ≡ n = omega arith in ap (λ k. take k new) e ∙ met_front
 
-    part-size : n ≡ length (take (n - 0) new)
-    part-size = found-lists.1.1 ∙ sym (ap length part-is ∙ length-map found-lists.0 (effect m))
+    part_size : n ≡ length (take (n - 0) new)
+    part_size = found_lists.1.1 ∙ sym (ap length part_is ∙ length-map found_lists.0 (effect m))
 
-    lists-are : effects_table m (take (n - 0) new) ≡ lists_table (behaviour m) found-lists.0
-    lists-are = ap (effects_table m) part-is ∙ table-by-lists m law found-lists.0 closed.own
+    lists_are : effects_table m (take (n - 0) new) ≡ lists_table (behaviour m) found_lists.0
+    lists_are = ap (effects_table m) part_is ∙ table_by_lists m law found_lists.0 closed.own
 
     pub counted_is : Counted m old new n
     counted_is = record {
-      fits = omega (arith, part-size, length-take (n - 0) new);
-      few = omega (arith, found-lists.1.1, closed.few);
-      part = record { lists = found-lists.0; closed = found-lists.1.0; effects = part-is };
-      count = part-size;
-      some = subst NumbersSome (sym lists-are) (record { rule = behaviour m; lawful = lawful_behaviour m law; numbers = numbers (behaviour m) (lawful_behaviour m law) found-lists.0 closed });
-      answer = ap Ok lists-are ∙ sym (table_is (complete found-lists.0) found-lists.1.0);
+      fits = omega (arith, part_size, length-take (n - 0) new);
+      few = omega (arith, found_lists.1.1, closed.few);
+      part = record { lists = found_lists.0; closed = found_lists.1.0; effects = part_is };
+      count = part_size;
+      some = subst NumbersSome (sym lists_are) (record { rule = behaviour m; lawful = lawful_behaviour m law; numbers = numbers (behaviour m) (lawful_behaviour m law) found_lists.0 closed });
+      answer = ap Ok lists_are ∙ sym (table_is (complete found_lists.0) found_lists.1.0);
       slice = slice_is;
-      numbered = subst (λ t. Numbered m t old new) (sym lists-are)
-          (subst (Numbered m (lists_table (behaviour m) found-lists.0) old) (sym (entries_are (complete found-lists.0) found-lists.1.0))
-          (slice_numbered m law found-lists.0 old (omega (arith, closed.few)) closed));
+      numbered = subst (λ t. Numbered m t old new) (sym lists_are)
+          (subst (Numbered m (lists_table (behaviour m) found_lists.0) old) (sym (entries_are (complete found_lists.0) found_lists.1.0))
+          (slice_numbered m law found_lists.0 old (omega (arith, closed.few)) closed));
     }

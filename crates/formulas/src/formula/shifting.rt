@@ -4,7 +4,7 @@
 ghost use Rattle.std.specs.Prelude.{◌≡◌, IfOk};
 ghost use Rattle.foundation.specs.Sets.{members};
 ghost use Rattle.rules.specs.Surveys.{view};
-ghost use Rattle.formulas.specs.Formulas.{joined, shift, or-after, then, impossible};
+ghost use Rattle.formulas.specs.Formulas.{joined, shift, or_after, then, impossible};
 ghost use Rattle.formulas.specs.FormulaViews.{formula_list, found, After, Composed};
 
 use crate::clauses::Clauses;
@@ -46,7 +46,7 @@ impl Formula {
 
     /// The formula after whichever of the effects the field takes.
     fn after_one_of(&self, table: &EffectTable, effects: EffectSet) -> Result<Formula, Overflow>
-        ensures { found result ≡ or-after 64 (view table.now) (formula_list self.now) impossible (members effects.bits) }
+        ensures { found result ≡ or_after 64 (view table.now) (formula_list self.now) impossible (members effects.bits) }
     {
         let mut after = Formula::impossible();
         let mut rest = effects;

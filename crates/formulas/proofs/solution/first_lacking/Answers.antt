@@ -4,7 +4,7 @@ use Rattle.formulas.specs.Entries.{entry_of}
 use Rattle.formulas.specs.Records.{entries}
 use Rattle.formulas.specs.Solving.{known, known_body}
 use Rattle.formulas.proofs.CombiningOn.{nth_there}
-use Rattle.formulas.proofs.Settling.{looking-more, looking-found, looking_end}
+use Rattle.formulas.proofs.Settling.{looking_more, looking_found, looking_end}
 use Rattle.formulas.proofs.solution.first_lacking.Goals as goal
 
 pub unreachable-requires : goal.unreachable-requires
@@ -12,12 +12,12 @@ unreachable-requires c = nth_there (entries c.args.set.now) c.loop-i.i (omega (a
 
 pub loop-i-preserved : goal.loop-i-preserved
 loop-i-preserved c =
-    looking-more (known_body c.args.commands) (entries c.args.set.now) c.loop-i.i (entry_of c.in-Some.record) c.in-Some.ensures c.loop-i.invariant
+    looking_more (known_body c.args.commands) (entries c.args.set.now) c.loop-i.i (entry_of c.in-Some.record) c.in-Some.ensures c.loop-i.invariant
     (sym (c.if-not-all_known.ensures ∙ ap (all (known c.args.commands)) c.body.ensures))
 
 pub returns-then-not-all_known : goal.returns-then-not-all_known
 returns-then-not-all_known c =
-    looking-found (known_body c.args.commands) (entries c.args.set.now) c.loop-i.i (entry_of c.in-Some.record) c.in-Some.ensures c.loop-i.invariant
+    looking_found (known_body c.args.commands) (entries c.args.set.now) c.loop-i.i (entry_of c.in-Some.record) c.in-Some.ensures c.loop-i.invariant
     (sym (c.if-not-all_known.ensures ∙ ap (all (known c.args.commands)) c.body.ensures))
 
 pub returns : goal.returns

@@ -1,6 +1,6 @@
 use Rattle.std.proofs.Common.{take, sym, ◌∙◌, arith}
 use Rattle.rules.specs.Register.{row, of_effects}
-use Rattle.rules.proofs.Surveying.{onward_own, ready, rows_start, rows_more, rows-off, rows_end}
+use Rattle.rules.proofs.Surveying.{onward_own, ready, rows_start, rows_more, rows_off, rows_end}
 use Rattle.rules.proofs.register.extend.Goals as goal
 
 pub loop-c-init : goal.loop-c-init
@@ -15,7 +15,7 @@ enter-requires g c =
 
 pub returns-in_err-met : goal.returns-in_err-met
 returns-in_err-met g c =
-    let a = rows-off (g.R.OrderRule.meaning c.args.rule.now) (g.R.OrderRule.lawful c.args.rule.now) c.args.slice.now c.loop-c.slice c.enter.new.slice c.loop-c.met c.loop-c.c c.args.from c.in-Some.to _
+    let a = rows_off (g.R.OrderRule.meaning c.args.rule.now) (g.R.OrderRule.lawful c.args.rule.now) c.args.slice.now c.loop-c.slice c.enter.new.slice c.loop-c.met c.loop-c.c c.args.from c.in-Some.to _
     c.requires.room c.requires.own c.in-Some.ensures c.loop-c.invariant (sym c.in_err-met.was ∙ c.enter.ensures.count) c.enter.ensures.slice in
     record { count = c.from_residual.ensures ∙ a.0; slice = a.1 }
 

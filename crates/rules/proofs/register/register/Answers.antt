@@ -1,6 +1,6 @@
 use Rattle.std.proofs.Common.{set, sym, ◌∙◌}
 use Rattle.rules.specs.Register.{met_effects}
-use Rattle.rules.proofs.Surveying.{ready, walks_start, walks-own, walks_more, walks-off, walks_end, past_first, room_kept}
+use Rattle.rules.proofs.Surveying.{ready, walks_start, walks_own, walks_more, walks_off, walks_end, past_first, room_kept}
 use Rattle.rules.proofs.register.register.Goals as goal
 
 pub loop-i-init : goal.loop-i-init
@@ -18,7 +18,7 @@ extend-requires g c =
       few = r.few;
       room = r.room;
       met = r.met;
-      own = walks-own m law old c.loop-i.slice old c.loop-i.count c.loop-i.i c.index-slice-i.result _ room c.loop-i-test.true c.index-slice-i.is c.loop-i.invariant;
+      own = walks_own m law old c.loop-i.slice old c.loop-i.count c.loop-i.i c.index-slice-i.result _ room c.loop-i-test.true c.index-slice-i.is c.loop-i.invariant;
     }
 
 pub returns-in_err-count : goal.returns-in_err-count
@@ -27,7 +27,7 @@ returns-in_err-count g c =
     let law = g.R.OrderRule.lawful c.args.rule.now in
     let xs = c.args.slice.now in
     let v = c.neutral.result in
-    let a = walks-off m law (set xs 0 v) c.loop-i.slice c.extend.new.slice c.loop-i.count c.loop-i.i c.index-slice-i.result _ (room_kept xs v c.requires) c.loop-i-test.true c.index-slice-i.is c.loop-i.invariant
+    let a = walks_off m law (set xs 0 v) c.loop-i.slice c.extend.new.slice c.loop-i.count c.loop-i.i c.index-slice-i.result _ (room_kept xs v c.requires) c.loop-i-test.true c.index-slice-i.is c.loop-i.invariant
     (sym c.in_err-count.was ∙ c.extend.ensures.count) c.extend.ensures.slice in
     let b = past_first m law xs c.extend.new.slice v _ a in
     record { count = c.from_residual.ensures ∙ b.0; slice = b.1 }

@@ -1,9 +1,9 @@
 use Rattle.std.proofs.Common.{◌≡◌, ◌+◌, ◌<◌, length, drop, Some, None, sym, ap, ◌∙◌, subst, arith}
 use Rattle.foundation.specs.Sets.{members}
 use Rattle.rules.specs.Surveys.{view}
-use Rattle.formulas.specs.Formulas.{or-after, impossible}
+use Rattle.formulas.specs.Formulas.{or_after, impossible}
 use Rattle.formulas.specs.FormulaViews.{formula_list}
-use Rattle.formulas.proofs.Shifting.{picked_none, picked_is, picked_rest, or-absent, or-present, or-more, or_end, err_found}
+use Rattle.formulas.proofs.Shifting.{picked_none, picked_is, picked_rest, or_absent, or_present, or_more, or_end, err_found}
 use Rattle.formulas.proofs.formula.Formula.after_one_of.Goals as goal
 use Rattle.formulas.proofs.formula.Formula.after_one_of.Goals.{then-from-effects+in_ok-shifted+in_ok-after, else-from-effects}
 
@@ -18,7 +18,7 @@ returns-in_err-shifted c =
     let h : c.loop.counter < length (members K) = omega (arith, c.loop-test.true, c.len-end.ensures.listed) in
     let is = picked_is K c.loop.rest.bits c.loop.counter c.loop.invariant.0 h c.in-Some.e c.in-Some.ensures.listed in
     err_found c.from_residual.result c.from_residual.ensures.0
-    ∙ sym (sym c.loop.invariant.1 ∙ or-present 64 t (formula_list c.args.self.now) (formula_list c.loop.after) K c.loop.counter c.in-Some.e h is (omega (arith, c.if-from-effects.true, c.from.ensures, c.effects.ensures)) None (sym c.in_err-shifted.ensures.value))
+    ∙ sym (sym c.loop.invariant.1 ∙ or_present 64 t (formula_list c.args.self.now) (formula_list c.loop.after) K c.loop.counter c.in-Some.e h is (omega (arith, c.if-from-effects.true, c.from.ensures, c.effects.ensures)) None (sym c.in_err-shifted.ensures.value))
 
 pub returns-in_err-after : goal.returns-in_err-after
 returns-in_err-after c =
@@ -27,7 +27,7 @@ returns-in_err-after c =
     let h : c.loop.counter < length (members K) = omega (arith, c.loop-test.true, c.len-end.ensures.listed) in
     let is = picked_is K c.loop.rest.bits c.loop.counter c.loop.invariant.0 h c.in-Some.e c.in-Some.ensures.listed in
     err_found c.from_residual-in_err-after.result c.from_residual-in_err-after.ensures.0
-    ∙ sym (sym c.loop.invariant.1 ∙ or-more 64 t (formula_list c.args.self.now) (formula_list c.loop.after) K c.loop.counter c.in-Some.e h is (omega (arith, c.if-from-effects.true, c.from.ensures, c.effects.ensures))
+    ∙ sym (sym c.loop.invariant.1 ∙ or_more 64 t (formula_list c.args.self.now) (formula_list c.loop.after) K c.loop.counter c.in-Some.e h is (omega (arith, c.if-from-effects.true, c.from.ensures, c.effects.ensures))
     (formula_list c.in_ok-shifted.shifted) (sym c.in_ok-shifted.ensures.value) None (sym c.in_err-after.ensures.value))
 
 pub loop-preserved : goal.loop-preserved
@@ -42,13 +42,13 @@ loop-preserved c =
       picked_rest K c.loop.rest.bits i c.loop.invariant.0 h c.without_first-rest.result.bits c.without_first-rest.ensures.listed,
       elim c.if-from-effects.branch [
         | then-from-effects+in_ok-shifted+in_ok-after w ↦
-            ap (λ f. or-after 64 t G (formula_list f) (drop (i + 1) (members K))) w.after-is
-            ∙ sym (or-more 64 t G T K i c.in-Some.e h is (omega (arith, w.if-from-effects.true, c.from.ensures, c.effects.ensures)) (formula_list w.in_ok-shifted.shifted) (sym w.in_ok-shifted.ensures.value)
+            ap (λ f. or_after 64 t G (formula_list f) (drop (i + 1) (members K))) w.after-is
+            ∙ sym (or_more 64 t G T K i c.in-Some.e h is (omega (arith, w.if-from-effects.true, c.from.ensures, c.effects.ensures)) (formula_list w.in_ok-shifted.shifted) (sym w.in_ok-shifted.ensures.value)
             (Some (formula_list w.in_ok-after.after)) (sym w.in_ok-after.ensures.value))
             ∙ c.loop.invariant.1
         | else-from-effects w ↦
-            ap (λ f. or-after 64 t G (formula_list f) (drop (i + 1) (members K))) w.after-is
-            ∙ sym (or-absent 64 t G T K i c.in-Some.e h is (omega (arith, w.if-from-effects.false, c.from.ensures, c.effects.ensures))) ∙ c.loop.invariant.1
+            ap (λ f. or_after 64 t G (formula_list f) (drop (i + 1) (members K))) w.after-is
+            ∙ sym (or_absent 64 t G T K i c.in-Some.e h is (omega (arith, w.if-from-effects.false, c.from.ensures, c.effects.ensures))) ∙ c.loop.invariant.1
       ],
     )
 

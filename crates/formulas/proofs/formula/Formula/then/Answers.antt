@@ -2,7 +2,7 @@ use Rattle.std.proofs.Common.{◌≡◌, ◌≤◌, [], length, Some, None, sym,
 use Rattle.std.proofs.lemmas.List.{length-map}
 use Rattle.rules.specs.Surveys.{view}
 use Rattle.formulas.specs.Clauses.{clause_list}
-use Rattle.formulas.specs.Formulas.{meets, going_on, offers, and-after, then}
+use Rattle.formulas.specs.Formulas.{meets, going_on, offers, and_after, then}
 use Rattle.formulas.specs.FormulaViews.{formula_list}
 use Rattle.formulas.specs.Masks.{mask}
 use Rattle.formulas.proofs.Given.{given_some}
@@ -19,7 +19,7 @@ returns-in_err-after c =
     let bad = c.from_residual.ensures.0 in
     record {
       value = err_found c.from_residual.result bad
-          ∙ sym (ap (and-after 64 t G []) (sym c.clauses-effects-items.ensures) ∙ sym c.loop-effects.invariant.0
+          ∙ sym (ap (and_after 64 t G []) (sym c.clauses-effects-items.ensures) ∙ sym c.loop-effects.invariant.0
           ∙ and_from 64 t G (clause_list c.loop-effects.clauses) c.clauses-effects-items.result.now c.loop-effects.effects-index None c.loop-effects-test.true (sym c.in_err-after.ensures));
       means = err_means c.from_residual.result _ bad;
     }
@@ -32,7 +32,7 @@ returns-in_err-offer_all c =
     let R = clause_list c.loop-effects.clauses in
     record {
       value = err_found c.from_residual-in_err-offer_all.result bad
-          ∙ sym (ap (and-after 64 t G []) (sym c.clauses-effects-items.ensures) ∙ sym c.loop-effects.invariant.0
+          ∙ sym (ap (and_after 64 t G []) (sym c.clauses-effects-items.ensures) ∙ sym c.loop-effects.invariant.0
           ∙ and_more 64 t G R c.clauses-effects-items.result.now c.loop-effects.effects-index (formula_list c.in_ok-after.after) c.loop-effects-test.true (sym c.in_ok-after.ensures) None
           (ap (offers 64 R) (sym c.clauses.ensures) ∙ c.in_err-offer_all.ensures));
       means = err_means c.from_residual-in_err-offer_all.result _ bad;
@@ -54,7 +54,7 @@ made : (c : goal.After-loop-effects) → then 64 (view c.args.table.now) (formul
 made c =
     let t = view c.args.table.now in
     let G = formula_list c.args.next.now in
-    ap (and-after 64 t G []) (sym c.clauses-effects-items.ensures) ∙ sym c.loop-effects.invariant.0
+    ap (and_after 64 t G []) (sym c.clauses-effects-items.ensures) ∙ sym c.loop-effects.invariant.0
     ∙ and_end 64 t G (clause_list c.loop-effects.clauses) c.clauses-effects-items.result.now c.loop-effects.effects-index c.loop-effects-test.false
 
 pub invariant_of-result : goal.invariant_of-result

@@ -4,7 +4,7 @@ use Rattle.std.proofs.lemmas.Result.{err_from_is_err_and}
 use Rattle.foundation.specs.Bounds.{items}
 use Rattle.formulas.specs.Entries.{entry_of}
 use Rattle.formulas.specs.Records.{viewed}
-use Rattle.formulas.proofs.InWords.{refused_early, refused-owner, refused-body, set-is-read, set-some, set-agreed, set-bodied}
+use Rattle.formulas.proofs.InWords.{refused_early, refused_owner, refused_body, set_is_read, set_some, set_agreed, set_bodied}
 use Rattle.formulas.proofs.OneAnswer.{read_fixes}
 use Rattle.formulas.proofs.procedure_set.ProcedureSet.read.Goals as goal
 
@@ -16,13 +16,13 @@ returns-in_err-records c =
 
 pub returns-in-Some : goal.returns-in-Some
 returns-in-Some c =
-    let a = refused-owner c.args.bytes.now (map entry_of (items c.in_ok-records.records)) (map entry_of c.as_slice.result.now) c.in_ok-records.ensures
+    let a = refused_owner c.args.bytes.now (map entry_of (items c.in_ok-records.records)) (map entry_of c.as_slice.result.now) c.in_ok-records.ensures
     c.in-Some.i (ap (map entry_of) c.as_slice.ensures) c.in-Some.ensures in
     record { value = a.value; words = a.words; only = λ x h. read_fixes c.args.bytes.now x h ∙ sym a.value }
 
 pub returns-in-Some-first_unrecorded : goal.returns-in-Some-first_unrecorded
 returns-in-Some-first_unrecorded c =
-    let a = refused-body c.args.bytes.now (map entry_of (items c.in_ok-records.records)) (map entry_of c.as_slice.result.now) c.in_ok-records.ensures
+    let a = refused_body c.args.bytes.now (map entry_of (items c.in_ok-records.records)) (map entry_of c.as_slice.result.now) c.in_ok-records.ensures
     (map entry_of c.as_slice-2.result.now) (ap (map entry_of) c.as_slice.ensures) (ap (map entry_of) c.as_slice-2.ensures) c.in_default.ensures
     c.in-Some-first_unrecorded.i c.in-Some-first_unrecorded.ensures in
     record { value = a.value; words = a.words; only = λ x h. read_fixes c.args.bytes.now x h ∙ sym a.value }
@@ -38,12 +38,12 @@ invariant_of-result c =
     let e = ap (map entry_of) c.as_slice.ensures in
     let e' = ap (map entry_of) c.as_slice-2.ensures in
     let agree = c.in_default.ensures in
-    let some : 0 < length list = omega (arith, set-some bytes rs part ok part' e e' agree, length-map list entry_of) in
-    record { some = some; agree = set-agreed bytes rs part ok part' e e' agree; named = set-bodied bytes rs part ok part' e e' agree c.in_default-first_unrecorded.ensures }
+    let some : 0 < length list = omega (arith, set_some bytes rs part ok part' e e' agree, length-map list entry_of) in
+    record { some = some; agree = set_agreed bytes rs part ok part' e e' agree; named = set_bodied bytes rs part ok part' e e' agree c.in_default-first_unrecorded.ensures }
 
 pub returns : goal.returns
 returns c =
-    let a = set-is-read c.args.bytes.now (map entry_of (items c.in_ok-records.records)) (map entry_of c.as_slice.result.now) c.in_ok-records.ensures
+    let a = set_is_read c.args.bytes.now (map entry_of (items c.in_ok-records.records)) (map entry_of c.as_slice.result.now) c.in_ok-records.ensures
     (map entry_of c.as_slice-2.result.now) (ap (map entry_of) c.as_slice.ensures) (ap (map entry_of) c.as_slice-2.ensures) c.in_default.ensures
     c.in_default-first_unrecorded.ensures in
     record { value = a.value; words = a.words; only = λ x h. read_fixes c.args.bytes.now x h ∙ sym a.value }

@@ -2,7 +2,7 @@ use Rattle.std.proofs.Common.{[], sym, refl, ap, ◌∙◌, arith, length-set}
 use Rattle.rules.specs.Surveys.{view}
 use Rattle.formulas.specs.Records.{entries}
 use Rattle.formulas.specs.RoundViews.{formulas_of, round_answer}
-use Rattle.formulas.proofs.Nexts.{procedures_are, gathering_none, gathering-off, gathering-more, gathering_all}
+use Rattle.formulas.proofs.Nexts.{procedures_are, gathering_none, gathering_off, gathering_more, gathering_all}
 use Rattle.formulas.proofs.round.Round.next.Goals as goal
 
 pub loop-p-init : goal.loop-p-init
@@ -10,12 +10,12 @@ loop-p-init c = (refl, gathering_none (view c.args.table.now) (entries c.args.se
 
 pub returns-in_default : goal.returns-in_default
 returns-in_default c =
-    sym (ap round_answer (gathering-off (view c.args.table.now) (entries c.args.set.now) (formulas_of c.args.self.now) c.loop-p.formulas c.loop-p.p (omega (arith, procedures_are, c.loop-p-test.true)) c.loop-p.invariant.1 (sym c.in_default.ensures)))
+    sym (ap round_answer (gathering_off (view c.args.table.now) (entries c.args.set.now) (formulas_of c.args.self.now) c.loop-p.formulas c.loop-p.p (omega (arith, procedures_are, c.loop-p-test.true)) c.loop-p.invariant.1 (sym c.in_default.ensures)))
 
 pub loop-p-preserved : goal.loop-p-preserved
 loop-p-preserved c = (
   length-set c.loop-p.formulas c.loop-p.p c.in-Ok.formula ∙ c.loop-p.invariant.0,
-  gathering-more (view c.args.table.now) (entries c.args.set.now) (formulas_of c.args.self.now) c.loop-p.formulas c.loop-p.p (omega (arith, procedures_are, c.loop-p-test.true)) c.loop-p.invariant.1
+  gathering_more (view c.args.table.now) (entries c.args.set.now) (formulas_of c.args.self.now) c.loop-p.formulas c.loop-p.p (omega (arith, procedures_are, c.loop-p-test.true)) c.loop-p.invariant.1
       c.in-Ok.formula (omega (arith, c.loop-p.invariant.0, c.loop-p-test.true)) (sym c.in-Ok.ensures),
 )
 

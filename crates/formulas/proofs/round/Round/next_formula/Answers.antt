@@ -7,7 +7,7 @@ use Rattle.formulas.specs.Records.{entries}
 use Rattle.formulas.specs.RoundViews.{formulas_of}
 use Rattle.formulas.specs.Rounds.{body_formula, combined_on}
 use Rattle.formulas.specs.Symbols.{bodies}
-use Rattle.formulas.proofs.CombiningOn.{nth_there, on-other, on_none, on-mixed, on_end, next_is}
+use Rattle.formulas.proofs.CombiningOn.{nth_there, on_other, on_none, on_mixed, on_end, next_is}
 use Rattle.formulas.proofs.Shifting.{err_found}
 use Rattle.formulas.proofs.round.Round.next_formula.Goals as goal
 use Rattle.formulas.proofs.round.Round.next_formula.Goals.{then-procedure-p+in_ok-formula+in_ok-combine, else-procedure-p}
@@ -38,7 +38,7 @@ returns-in_err-combine c =
     let r = entry_of c.in-Some-get.record in
     err_found c.from_residual-in_err-combine.result c.from_residual-in_err-combine.ensures.0
     ∙ sym (next_is 64 t rs L c.args.p (Some c.in-Some.owner) c.in-Some.ensures ∙ sym c.loop-i.invariant
-    ∙ on-mixed 64 t L c.in-Some.owner rs c.args.p c.loop-i.i r c.in-Some-get.ensures (option_map formula_list c.loop-i.so_far) (sym c.procedure.ensures ∙ c.if-procedure-p.true)
+    ∙ on_mixed 64 t L c.in-Some.owner rs c.args.p c.loop-i.i r c.in-Some-get.ensures (option_map formula_list c.loop-i.so_far) (sym c.procedure.ensures ∙ c.if-procedure-p.true)
     (formula_list c.in_ok-formula.formula) None (ap (body_formula 64 t L) (sym c.body.ensures) ∙ sym c.in_ok-formula.ensures) (sym c.in_err-combine.ensures))
 
 pub loop-i-preserved : goal.loop-i-preserved
@@ -54,12 +54,12 @@ loop-i-preserved c =
     elim c.if-procedure-p.branch [
       | then-procedure-p+in_ok-formula+in_ok-combine w ↦
           ap (λ x. combined_on 64 t L o (option_map formula_list x) (bodies (drop (i + 1) rs) p)) w.so_far-is
-          ∙ sym (on-mixed 64 t L o rs p i r c.in-Some-get.ensures so_far (sym c.procedure.ensures ∙ w.if-procedure-p.true)
+          ∙ sym (on_mixed 64 t L o rs p i r c.in-Some-get.ensures so_far (sym c.procedure.ensures ∙ w.if-procedure-p.true)
           (formula_list w.in_ok-formula.formula) (Some (formula_list w.in_ok-combine.field-0)) (ap (body_formula 64 t L) (sym w.body.ensures) ∙ sym w.in_ok-formula.ensures) (sym w.in_ok-combine.ensures))
           ∙ c.loop-i.invariant
       | else-procedure-p w ↦
           ap (λ x. combined_on 64 t L o (option_map formula_list x) (bodies (drop (i + 1) rs) p)) w.so_far-is
-          ∙ sym (on-other 64 t L o rs p i r c.in-Some-get.ensures so_far (λ e. w.if-procedure-p.false (c.procedure.ensures ∙ e))) ∙ c.loop-i.invariant
+          ∙ sym (on_other 64 t L o rs p i r c.in-Some-get.ensures so_far (λ e. w.if-procedure-p.false (c.procedure.ensures ∙ e))) ∙ c.loop-i.invariant
     ]
 
 pub returns-in-Some-so_far : goal.returns-in-Some-so_far
