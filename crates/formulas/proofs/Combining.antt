@@ -1,27 +1,25 @@
 -- The next formula of a procedure: which sets it meets, and that its clauses are the smallest ones, over the table's numbers.
-use Rattle.std.proofs.Common.{◌≡◌, ℕ, ◌^◌, ◌<◌, ◌≤◌, Bool, true, false, cond, ◌&&◌, ◌||◌, ltb, ◌⊎◌, List, [], ◌∷◌, ◌++◌, map, Some, None, Option, sym, refl, ap, ◌∙◌, subst, ap₂, inl, inr, arith}
-use mathlib.Core.Path.{fun_ext}
+use Rattle.std.proofs.Common.{◌≡◌, ℕ, ◌^◌, ◌<◌, Bool, true, false, cond, ◌&&◌, ◌||◌, ltb, List, [], ◌∷◌, map, Some, None, Option, sym, refl, ap, ◌∙◌, subst, ap₂}
 use mathlib.Core.List.{Memᴰ}
 use mathlib.Core.Bool.{and_assoc, and-true, or_assoc, or-false}
 use lib.Bits.{bit_or, or_lt}
-use Rattle.std.specs.List.{AllByRecursion as All}
 use Rattle.std.proofs.lemmas.Nat.{pow_pos, pow_below}
-use Rattle.std.proofs.ByRecursion.{All-append, All-map}
-use Rattle.std.proofs.lemmas.Bool.{ltb-true, cases_lt}
+use Rattle.std.proofs.ByRecursion.{All-append}
+use Rattle.std.proofs.lemmas.Bool.{ltb-true}
 use Rattle.foundation.specs.Bits.{has}
 use Rattle.foundation.specs.Sets.{members, gathered}
 use Rattle.foundation.specs.Tests.{any, all}
 use Rattle.rules.specs.Lookups.{table_command}
-use Rattle.rules.specs.Tables.{Table, number_of, join_of}
+use Rattle.rules.specs.Tables.{Table, join_of}
 use Rattle.formulas.specs.declared.symbol.Owner.{Owner}
 use Rattle.formulas.specs.declared.symbol.Owner.TheVariants.{Station, Field}
 use Rattle.formulas.specs.declared.symbol.Symbol.{Symbol}
 use Rattle.formulas.specs.declared.symbol.Symbol.TheVariants.{Command, Procedure}
 use Rattle.formulas.specs.Steps.{bind}
 use Rattle.formulas.specs.Formulas.{meets, impossible, neutral, Normal, BelowWidth, offers, unions, joins, joined, both, either, shift, or_after, and_after, then}
-use Rattle.formulas.specs.Rounds.{formula_at, shift_by, body_formula, mixed, mixed_all, combined, next_owned, next_formula}
+use Rattle.formulas.specs.Rounds.{formula_at, shift_by, body_formula, mixed, mixed_all, next_owned, next_formula}
 use Rattle.formulas.specs.Symbols.{Entry, bodies, owner_of}
-use Rattle.formulas.specs.Winning.{Assignment, assigned, winning}
+use Rattle.formulas.specs.Winning.{assigned, winning}
 use Rattle.formulas.proofs.Given.{Given, given_bind, given_weaker}
 use Rattle.formulas.proofs.Meets.{impossible-meets, offers-meet, either_meets}
 use Rattle.formulas.proofs.Monoids.{Monoid}

@@ -1,13 +1,12 @@
 -- The bodies of a procedure, combined as the records go by.
-use Rattle.std.proofs.Common.{◌≡◌, ℕ, zero, suc, ◌+◌, ◌<◌, ◌≤◌, eqb, List, [], ◌∷◌, length, drop, Some, None, Option, sym, refl, ap, ◌∙◌, add-one, arith}
+use Rattle.std.proofs.Common.{◌≡◌, ℕ, zero, suc, ◌+◌, ◌<◌, ◌≤◌, eqb, List, [], ◌∷◌, length, drop, Some, None, Option, sym, refl, ap, ◌∙◌, arith}
 use Rattle.std.specs.List.{slice_get}
 use Rattle.std.proofs.lemmas.List.{drop_all}
 use Rattle.std.proofs.lemmas.Bool.{cond-true, cond-false, eq-eqb, ne_eqb}
 use Rattle.rules.specs.Tables.{Table}
 use Rattle.formulas.specs.declared.symbol.Owner.{Owner}
 use Rattle.formulas.specs.declared.symbol.Symbol.{Symbol}
-use Rattle.formulas.specs.Formulas.{impossible}
-use Rattle.formulas.specs.Rounds.{body_formula, mixed_with, mixed_all, combined, combined_on, next_owned, next_formula}
+use Rattle.formulas.specs.Rounds.{body_formula, mixed_with, mixed_all, combined_on, next_owned, next_formula}
 use Rattle.formulas.specs.Steps.{bind}
 use Rattle.formulas.specs.Symbols.{Entry, bodies, owner_of}
 

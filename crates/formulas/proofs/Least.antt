@@ -1,7 +1,6 @@
 -- The first settled round is the least solution of the equations, and decides the game.
-use Rattle.std.proofs.Common.{◌≡◌, ℕ, suc, ◌^◌, ◌<◌, Bool, true, false, List, [], ◌∷◌, IfOk, Some, None, Ok, Err, Decides, Option, Result, sym, refl, ap, ◌∙◌, subst, ap₂, arith}
+use Rattle.std.proofs.Common.{◌≡◌, ℕ, ◌^◌, ◌<◌, Bool, List, [], ◌∷◌, IfOk, Some, None, Ok, Err, Decides, Option, Result, sym, refl, ap, ◌∙◌, subst, ap₂, arith}
 use mathlib.Core.Path.{fun_ext}
-use mathlib.Core.List.{Memᴰ}
 use Rattle.foundation.specs.Bits.{has}
 use Rattle.foundation.specs.Tests.{any, all}
 use Rattle.foundation.specs.Laws.Bits.{same_tests}
@@ -18,7 +17,7 @@ use Rattle.formulas.specs.Formulas.{meets, then}
 use Rattle.formulas.specs.FormulaViews.{formula_list, found}
 use Rattle.formulas.specs.Rounds.{formula_at, in_front, body_formula, next_formula, next_round, round}
 use Rattle.formulas.specs.Steps.{bind}
-use Rattle.formulas.specs.Symbols.{Entry, Of, Belongs, Agree, bodies, owner_of}
+use Rattle.formulas.specs.Symbols.{Entry, Of, Agree, bodies, owner_of}
 use Rattle.formulas.specs.Winning.{Assignment, assigned, winning}
 use Rattle.formulas.proofs.Combining.{by_owner, next_says}
 use Rattle.formulas.proofs.Given.{given_some}

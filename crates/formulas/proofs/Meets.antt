@@ -1,9 +1,9 @@
 -- What each operation on formulas means: which sets the result meets.
-use Rattle.std.proofs.Common.{◌≡◌, ℕ, Bool, true, false, cond, not, ◌&&◌, ◌||◌, ltb, List, [], ◌∷◌, ◌++◌, map, length, Some, None, Option, sym, refl, ap, ◌∙◌, ap₂, true≢false}
+use Rattle.std.proofs.Common.{◌≡◌, ℕ, Bool, true, false, cond, not, ◌&&◌, ◌||◌, ltb, List, [], ◌∷◌, map, length, Some, None, sym, refl, ap, ◌∙◌, ap₂, true≢false}
 use mathlib.Core.Path.{fun_ext}
 use mathlib.Core.Bool.{and_assoc, and_comm, and-true, and-false, or_assoc, or-false, or-true, or-and_distrib_left, or-and_distrib_right, false≢true}
 use lib.Bits.{bit_or}
-use Rattle.foundation.specs.Sets.{within, members, gathered, hits}
+use Rattle.foundation.specs.Sets.{within, members, hits}
 use Rattle.foundation.specs.Tests.{any, all}
 use Rattle.foundation.specs.Laws.Members.{hits-none, hits-or, hits-gathered, hits-within}
 use Rattle.foundation.specs.Laws.Tests.{all_map, all_append}

@@ -3,12 +3,11 @@ use Rattle.std.proofs.Common.{◌≡◌, ℕ, ◌<◌, ◌≤◌, ◌⊎◌, Lis
 use mathlib.Core.Logic.{∥∥₁_elim}
 use native.Mathlib.Bridge.{le_prop}
 use native.Mathlib.Nat.{ℕ_set}
-use Rattle.std.specs.List.{AllByRecursion as All}
 use Rattle.std.proofs.ByRecursion.{All-append}
 use Rattle.std.proofs.lemmas.Option.{slice_get-get_or, slice_get_past}
 use Rattle.std.proofs.lemmas.Bool.{cases_lt}
 use Rattle.rules.specs.declared.table.EffectTable.{EffectTable}
-use Rattle.rules.specs.Behaviours.{Behaviour, LawfulBehaviour}
+use Rattle.rules.specs.Behaviours.{Behaviour}
 use Rattle.rules.specs.Lookups.{table_command}
 use Rattle.rules.specs.Meaning.{Below}
 use Rattle.rules.specs.Numbering.{Numbers}

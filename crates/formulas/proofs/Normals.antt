@@ -1,5 +1,5 @@
 -- Smallest clauses in rising order: each operation gives such a list, and two of them that meet the same sets are one.
-use Rattle.std.proofs.Common.{◌≡◌, ℕ, zero, suc, ◌+◌, ◌^◌, ◌<◌, ◌≤◌, Bool, true, false, cond, not, ◌&&◌, ◌||◌, ltb, ◌⊎◌, List, [], ◌∷◌, map, length, get_or, Some, None, Option, sym, refl, ap, ◌∙◌, subst, ap₂, inl, inr, ⊎_elim, arith}
+use Rattle.std.proofs.Common.{◌≡◌, ℕ, zero, suc, ◌+◌, ◌^◌, ◌<◌, ◌≤◌, Bool, true, false, cond, not, ltb, ◌⊎◌, List, [], ◌∷◌, length, get_or, Some, None, sym, refl, ap, ◌∙◌, subst, ap₂, inl, inr, ⊎_elim, arith}
 use mathlib.Core.List.Memᴰ
 use mathlib.Core.List.{Memᴰ}
 use mathlib.Core.Bool.{false≢true}
@@ -9,7 +9,7 @@ use Rattle.std.specs.List.{AllByRecursion as All}
 use Rattle.std.proofs.ByRecursion.{All-weaker, all_kept_by}
 use Rattle.std.proofs.lemmas.Bool.{ltb-true, ltb-false, eqb-true, eq-eqb, both_ways, cases_Bool, cases_lt, and_parts, and_from, not-true, not_from_false}
 use Rattle.foundation.specs.Bits.{has, number}
-use Rattle.foundation.specs.Sets.{within, members, hits}
+use Rattle.foundation.specs.Sets.{within, hits}
 use Rattle.foundation.specs.Tests.{any}
 use Rattle.foundation.specs.Laws.Bits.{has-number, has_above, has_ext, number_lt, same_tests}
 use Rattle.foundation.specs.Laws.Members.{hits_decides}
@@ -17,7 +17,7 @@ use Rattle.foundation.specs.Laws.Sets.{within_decides}
 use Rattle.foundation.specs.Laws.Tests.{any_in, in_any, not_all_in, in_not_all}
 use Rattle.formulas.specs.Clauses.{SmallestOf}
 use Rattle.formulas.specs.Formulas.{meets, Normal, none_within, BelowWidth, outside, placed, offer, offers}
-use Rattle.formulas.proofs.Given.{Given, given_bind, given_weaker}
+use Rattle.formulas.proofs.Given.{Given, given_bind}
 
 -- ---- rising order
 

@@ -1,5 +1,5 @@
 -- Each round holds the next formulas of the round before.
-use Rattle.std.proofs.Common.{◌≡◌, ℕ, zero, suc, ◌+◌, ◌<◌, ◌≤◌, ◌⊎◌, List, [], ◌∷◌, map, length, get_or, Some, None, Ok, Err, Option, Result, sym, refl, ap, ◌∙◌, subst, inl, inr, arith}
+use Rattle.std.proofs.Common.{◌≡◌, ℕ, zero, suc, ◌+◌, ◌<◌, ◌≤◌, ◌⊎◌, List, [], ◌∷◌, length, get_or, Some, None, Ok, Err, Option, Result, sym, refl, ap, ◌∙◌, subst, inl, inr, arith}
 use mathlib.Core.List.{Memᴰ}
 use Rattle.std.specs.List.{range_with_len}
 use Rattle.std.proofs.lemmas.List.FromFn.{get_or-map-range_with_len, length-map-range_with_len}
@@ -13,7 +13,7 @@ use Rattle.formulas.specs.Records.{entries}
 use Rattle.formulas.specs.Rounds.{procedures, formula_at, next_owned, next_formula, with_first, each_formula, first_round, on_round, next_round, round}
 use Rattle.formulas.specs.Symbols.{Entry, bodies, owner_of}
 use Rattle.formulas.proofs.Combining.{Good, impossible_good, next_good}
-use Rattle.formulas.proofs.Given.{Given, given_some}
+use Rattle.formulas.proofs.Given.{given_some}
 use Rattle.formulas.proofs.Monoids.{Monoid}
 use Rattle.formulas.proofs.Nexts.{procedures_are}
 use Rattle.formulas.proofs.Records.{owner_belongs, set_range}

@@ -1,5 +1,5 @@
 -- The rounds of a solve, step by step.
-use Rattle.std.proofs.Common.{◌≡◌, ℕ, zero, suc, ◌+◌, ◌-◌, ◌<◌, ◌≤◌, Bool, true, false, cond, ◌&&◌, List, [], ◌∷◌, length, drop, Some, None, Ok, Err, Decides, Option, Result, sym, refl, ap, ◌∙◌, subst, ap₂, arith}
+use Rattle.std.proofs.Common.{◌≡◌, ℕ, suc, ◌+◌, ◌-◌, ◌<◌, ◌≤◌, Bool, true, false, cond, List, [], ◌∷◌, length, drop, Some, None, Ok, Err, Decides, Result, sym, refl, ap, ◌∙◌, ap₂, arith}
 use mathlib.Core.Bool.{false≢true}
 use Rattle.std.specs.List.{slice_get}
 use Rattle.std.specs.Str.{bytes_eq}
@@ -13,7 +13,7 @@ use Rattle.formulas.specs.declared.fault.SolveFault.TheVariants.{TooManyClauses,
 use Rattle.formulas.specs.RoundViews.{round_answer}
 use Rattle.formulas.specs.Rounds.{next_round}
 use Rattle.formulas.specs.Searches.{first_bad}
-use Rattle.formulas.specs.Solving.{Settled, same_rounds, settle_on, settle}
+use Rattle.formulas.specs.Solving.{same_rounds, settle_on, settle}
 use Rattle.formulas.specs.Symbols.{Entry}
 use Rattle.formulas.proofs.CombiningOn.{drop_nth}
 

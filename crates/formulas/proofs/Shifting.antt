@@ -1,5 +1,5 @@
 -- The members of a clause picked one by one, their joins, and formulas after effects.
-use Rattle.std.proofs.Common.{◌≡◌, ℕ, suc, ◌+◌, ◌^◌, ◌<◌, ◌≤◌, Bool, true, false, cond, ◌&&◌, ◌||◌, ltb, List, [], ◌∷◌, ◌++◌, map, length, get_or, drop, is_err, IfOk, Some, None, Ok, Err, Option, Result, sym, refl, ap, ◌∙◌, subst, arith}
+use Rattle.std.proofs.Common.{◌≡◌, ℕ, ◌+◌, ◌^◌, ◌<◌, ◌≤◌, Bool, true, false, cond, ◌&&◌, ◌||◌, ltb, List, ◌∷◌, map, length, get_or, drop, is_err, IfOk, Some, None, Ok, Err, Option, Result, sym, refl, ap, ◌∙◌, arith}
 use mathlib.Core.Bool.{or_assoc, false≢true}
 use lib.Bits.{bit_or, or_zero_r}
 use Rattle.std.specs.List.{slice_get}
@@ -19,7 +19,7 @@ use Rattle.formulas.specs.Steps.{bind}
 use Rattle.formulas.specs.Formulas.{impossible, offer, offers, joins, joined, both, either, shift, or_after, and_after}
 use Rattle.formulas.specs.FormulaViews.{found}
 use Rattle.formulas.specs.Masks.{mask, masks}
-use Rattle.formulas.proofs.Monoids.{Monoid, table_monoid}
+use Rattle.formulas.proofs.Monoids.{table_monoid}
 use Rattle.formulas.proofs.Offers.{masks_from, masks_end}
 
 pub bit_or_assoc : (a b c : ℕ) → bit_or (bit_or a b) c ≡ bit_or a (bit_or b c)

@@ -1,12 +1,10 @@
 -- The game against the winning sets: what a solution has, for every tree; and a tree, for all that a round has.
-use Rattle.std.proofs.Common.{◌≡◌, ℕ, zero, suc, ◌^◌, ◌<◌, ◌≤◌, Bool, true, false, ◌⊎◌, List, [], ◌∷◌, ◌++◌, map, Some, None, Ok, Option, sym, refl, ap, ◌∙◌, subst, inl, inr, append_assoc, append-nil, arith}
+use Rattle.std.proofs.Common.{◌≡◌, ℕ, zero, suc, ◌^◌, ◌<◌, ◌≤◌, true, ◌⊎◌, List, [], ◌∷◌, ◌++◌, Some, None, Ok, Option, sym, refl, ap, ◌∙◌, subst, inl, inr, append-nil}
 use mathlib.Core.List.{Memᴰ}
 use mathlib.Core.Bool.{false≢true}
-use Rattle.std.specs.List.{AllByRecursion as All}
 use Rattle.std.proofs.ByRecursion.{All-append}
 use Rattle.std.proofs.lemmas.Bool.{cases_lt}
 use Rattle.foundation.specs.Bits.{has}
-use Rattle.foundation.specs.Tests.{any, all}
 use Rattle.foundation.specs.Laws.Bits.{number_lt}
 use Rattle.foundation.specs.Laws.Tests.{any_in, in_any, all_in, in_all}
 use Rattle.rules.specs.Meaning.{Below}
@@ -17,8 +15,8 @@ use Rattle.formulas.specs.declared.symbol.Symbol.{Symbol}
 use Rattle.formulas.specs.declared.symbol.Symbol.TheVariants.{Command, Procedure}
 use Rattle.formulas.specs.Formulas.{meets, impossible}
 use Rattle.formulas.specs.Rounds.{formula_at, next_formula, first_round, round}
-use Rattle.formulas.specs.Symbols.{Entry, Of, Belongs, Agree, bodies, owner_of}
-use Rattle.formulas.specs.Trees.{commands, Branch, Tree, leaf, one, every, effect_number, LeadsInto}
+use Rattle.formulas.specs.Symbols.{Entry, Of, Agree, bodies, owner_of}
+use Rattle.formulas.specs.Trees.{commands, Tree, leaf, one, every, effect_number, LeadsInto}
 use Rattle.formulas.specs.Winning.{Assignment, assigned, after_effect, winning}
 use Rattle.formulas.proofs.Combining.{by_owner, next_says}
 use Rattle.formulas.proofs.Given.{given_some}
@@ -26,7 +24,7 @@ use Rattle.formulas.proofs.Meets.{impossible-meets}
 use Rattle.formulas.proofs.Monoids.{Monoid}
 use Rattle.formulas.proofs.Records.{body_of, of_body, owner_belongs, belongs_owner}
 use Rattle.formulas.proofs.Rounds.{Within, first_at, next_at, round_follows}
-use Rattle.formulas.proofs.Winning.{winning-lt, winning-append, winning_known, winning_lacking, winning_procedure, after_winning, winning_from}
+use Rattle.formulas.proofs.Winning.{winning-lt, winning_known, winning_lacking, winning_procedure, after_winning, winning_from}
 
 -- ---- lists of commands
 

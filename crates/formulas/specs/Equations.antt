@@ -1,5 +1,5 @@
 -- The equations, and their least solution.
-use Rattle.std.specs.Prelude.{◌≡◌, ℕ, suc, ◌^◌, ◌<◌, true, false, List, Ok, Err, Decides, ◌≢◌}
+use Rattle.std.specs.Prelude.{◌≡◌, ℕ, suc, ◌^◌, ◌<◌, true, false, List, Ok, Decides, ◌≢◌}
 use mathlib.Core.List.{Memᴰ}
 use Rattle.foundation.specs.Bits.{has}
 use Rattle.rules.specs.Tables.{Table}

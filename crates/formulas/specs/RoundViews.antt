@@ -1,5 +1,5 @@
 -- Rounds that the code holds, by their formulas.
-use Rattle.std.specs.Prelude.{ℕ, List, map, Ok, Err, Result}
+use Rattle.std.specs.Prelude.{ℕ, List, map, Result}
 use Rattle.std.specs.Result.{result_map_both as by_cases}
 use Rattle.formulas.specs.declared.fault.SolveFault.{SolveFault}
 use Rattle.formulas.specs.declared.fault.SolveFault.TheVariants.{TooManyClauses}

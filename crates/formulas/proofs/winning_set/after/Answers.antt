@@ -11,9 +11,9 @@ loop-i-preserved c =
     let f : ℕ → Bool = λ k. has c.args.set.bits (join_of (view c.args.table.now) c.args.e k) in
     elim c.if-leads.branch [
       | then-leads w ↦
-          ap (λ s. s.bits) w.leading_is ∙ w.with-leading.ensures.value
+          ap (λ s. s.bits) w.leading-is ∙ w.with-leading.ensures.value
           ∙ member_more f 64 c.loop-i.i c.loop-i.leading.bits (omega (arith, c.loop-i-test.true, c.effects-i-end.ensures, c.args.table.now.few)) c.loop-i.invariant (sym c.leads.ensures ∙ w.if-leads.true)
-      | else-leads w ↦ ap (λ s. s.bits) w.leading_is ∙ member_not f c.loop-i.i c.loop-i.leading.bits c.loop-i.invariant (sym c.leads.ensures ∙ w.if-leads.false)
+      | else-leads w ↦ ap (λ s. s.bits) w.leading-is ∙ member_not f c.loop-i.i c.loop-i.leading.bits c.loop-i.invariant (sym c.leads.ensures ∙ w.if-leads.false)
     ]
 
 pub returns : goal.returns

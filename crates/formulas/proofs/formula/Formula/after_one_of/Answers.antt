@@ -1,7 +1,7 @@
-use Rattle.std.proofs.Common.{◌≡◌, ◌+◌, ◌<◌, length, drop, Some, None, sym, ap, ◌∙◌, subst, arith}
+use Rattle.std.proofs.Common.{◌+◌, ◌<◌, length, drop, Some, None, sym, ap, ◌∙◌, arith}
 use Rattle.foundation.specs.Sets.{members}
 use Rattle.rules.specs.Surveys.{view}
-use Rattle.formulas.specs.Formulas.{or_after, impossible}
+use Rattle.formulas.specs.Formulas.{or_after}
 use Rattle.formulas.specs.FormulaViews.{formula_list}
 use Rattle.formulas.proofs.Shifting.{picked_none, picked_is, picked_rest, or_absent, or_present, or_more, or_end, err_found}
 use Rattle.formulas.proofs.formula.Formula.after_one_of.Goals as goal

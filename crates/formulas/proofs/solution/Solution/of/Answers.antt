@@ -1,4 +1,4 @@
-use Rattle.std.proofs.Common.{◌≡◌, Some, None, sym, ap, ◌∙◌, arith}
+use Rattle.std.proofs.Common.{Some, None, ◌∙◌, arith}
 use Rattle.formulas.specs.Solutions.{solution_viewed}
 use Rattle.formulas.proofs.SolvedInWords.{answer_says, answer_is}
 use Rattle.formulas.proofs.solution.Solution.of.Goals as goal
