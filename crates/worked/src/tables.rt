@@ -59,8 +59,8 @@ fn keeps_the_slice_past_the_effects(rt: HostRuntime) -> Result<(), Fail> {
     let count = made(Count::new(3, &[1], 1))?;
     let mut slice = [200; 70];
     assert_eq!(rt; made(EffectTable::of(&count, &mut slice))?.effects(), 3);
-    assert_eq!(rt; &slice[0..3], [0, 1, 2]);
-    assert_eq!(rt; &slice[3..70], [200; 67]);
+    assert_eq!(rt; &slice[0..3], [0, 1, 2].as_slice());
+    assert_eq!(rt; &slice[3..70], [200; 67].as_slice());
     Ok(())
 }
 
@@ -72,6 +72,6 @@ fn keeps_the_slice_past_64_refused_effects(rt: HostRuntime) -> Result<(), Fail> 
     let refused = EffectTable::of(&Pair::new(eights, nines), &mut slice);
     assert_eq!(rt; fault(refused)?.refusal().number, 6);
     assert_eq!(rt; slice[63], (7, 0));
-    assert_eq!(rt; &slice[64..70], [(200, 200); 6]);
+    assert_eq!(rt; &slice[64..70], [(200, 200); 6].as_slice());
     Ok(())
 }
