@@ -5,7 +5,7 @@ use mathlib.Core.List.{Memᴰ}
 use mathlib.Core.Bool.{false≢true}
 use lib.Bits.{bit_and, and_self, and_le_r}
 use Rattle.std.specs.List.Sorted.{IsStrictlyIncreasing}
-use Rattle.std.specs.List.{AllByRecursion as All}
+use Rattle.std.specs.List.{AllByRecursion}
 use Rattle.std.proofs.ByRecursion.{All-weaker, all_kept_by}
 use Rattle.std.proofs.lemmas.Bool.{ltb-true, ltb-false, eqb-true, eq-eqb, both_ways, cases_Bool, cases_lt, and_parts, and_from, not-true, not_from_false}
 use Rattle.foundation.specs.Bits.{has, number}
@@ -23,7 +23,7 @@ use Rattle.formulas.proofs.Given.{Given, given_bind}
 
 abbrev pub Ordered : List ℕ → Type 0
 Ordered [] = Unit {0}
-Ordered (K ∷ F) = All (λ L. K < L) F × Ordered F
+Ordered (K ∷ F) = AllByRecursion (λ L. K < L) F × Ordered F
 
 pub ordered_climbs : (F : List ℕ) → Ordered F → IsStrictlyIncreasing F
 ordered_climbs [] o k h = absurd (omega arith)
@@ -39,7 +39,7 @@ climbs_ordered (K ∷ F) c =
     let rest = climbs_ordered F (λ k h. let e : suc k + 1 ≡ suc (k + 1) = omega arith in let l : suc k + 1 < suc (length F) = omega arith in rw e at (c (suc k) l)) in
     (above F (c 0) rest, rest)
   where
-    above : (F : List ℕ) → (0 + 1 < length (K ∷ F) → K < get_or (K ∷ F) (0 + 1) 0) → Ordered F → All (λ L. K < L) F
+    above : (F : List ℕ) → (0 + 1 < length (K ∷ F) → K < get_or (K ∷ F) (0 + 1) 0) → Ordered F → AllByRecursion (λ L. K < L) F
     above [] h o = tt
     above (L ∷ F) h o = let l : K < L = h (omega arith) in (l, All-weaker (λ y. L < y) (λ y. K < y) (λ y q. omega arith) F o.0)
 
@@ -59,7 +59,7 @@ within_le K L e = omega (arith, eqb-true (bit_and K L) K e, and_le_r K L)
 
 -- ---- as a test
 
-AllIn : (P : ℕ → Type 0) {x : ℕ} {xs : List ℕ} → All P xs → Memᴰ x xs → P x
+AllIn : (P : ℕ → Type 0) {x : ℕ} {xs : List ℕ} → AllByRecursion P xs → Memᴰ x xs → P x
 AllIn P a (Memᴰ.head e) = subst P (sym e) a.0
 AllIn P a (Memᴰ.tail m) = AllIn P a.1 m
 
@@ -120,11 +120,11 @@ placed_in C (L ∷ F) K m = go (ltb C L) m (placed_in C F K)
     go false (Memᴰ.head q) ih = inr (Memᴰ.head q)
     go false (Memᴰ.tail m) ih = up (ih m)
 
-pub placed-all : (P : ℕ → Type 0) (C : ℕ) (F : List ℕ) → P C → All P F → All P (placed C F)
+pub placed-all : (P : ℕ → Type 0) (C : ℕ) (F : List ℕ) → P C → AllByRecursion P F → AllByRecursion P (placed C F)
 placed-all P C [] p a = (p, tt)
 placed-all P C (L ∷ F) p a = go (ltb C L) (placed-all P C F p a.1)
   where
-    go : (b : Bool) → All P (placed C F) → All P (cond b (C ∷ L ∷ F) (L ∷ placed C F))
+    go : (b : Bool) → AllByRecursion P (placed C F) → AllByRecursion P (cond b (C ∷ L ∷ F) (L ∷ placed C F))
     go true ih = (p, (a.0, a.1))
     go false ih = (a.0, ih)
 
@@ -164,11 +164,11 @@ module _ (limit : ℕ) where
       go false e true = entered_normal C F n e
       go false e false = tt
 
-  pub offer_all_lem : (P : ℕ → Type 0) (C : ℕ) (F : List ℕ) → P C → All P F → Given (offer limit C F) (All P)
+  pub offer_all_lem : (P : ℕ → Type 0) (C : ℕ) (F : List ℕ) → P C → AllByRecursion P F → Given (offer limit C F) (AllByRecursion P)
   unfolding offer
   offer_all_lem P C F p a = go (any (λ K. within K C) F) (ltb (length (outside C F)) limit)
     where
-      go : (b d : Bool) → Given (cond b (Some F) (cond d (Some (placed C (outside C F))) None)) (All P)
+      go : (b d : Bool) → Given (cond b (Some F) (cond d (Some (placed C (outside C F))) None)) (AllByRecursion P)
       go true d = a
       go false true = placed-all P C (outside C F) p (all_kept_by (λ K. not (within C K)) P F a)
       go false false = tt
@@ -177,9 +177,9 @@ module _ (limit : ℕ) where
   offers_normal F [] n = n
   offers_normal F (C ∷ Cs) n = given_bind (offer limit C F) (λ R. offers limit R Cs) Normal Normal (offer_normal C F n) (λ R r. offers_normal R Cs r)
 
-  pub offers_all : (P : ℕ → Type 0) (F Cs : List ℕ) → All P F → All P Cs → Given (offers limit F Cs) (All P)
+  pub offers_all : (P : ℕ → Type 0) (F Cs : List ℕ) → AllByRecursion P F → AllByRecursion P Cs → Given (offers limit F Cs) (AllByRecursion P)
   offers_all P F [] a b = a
-  offers_all P F (C ∷ Cs) a b = given_bind (offer limit C F) (λ R. offers limit R Cs) (All P) (All P) (offer_all_lem P C F b.0 a) (λ R r. offers_all P R Cs r b.1)
+  offers_all P F (C ∷ Cs) a b = given_bind (offer limit C F) (λ R. offers limit R Cs) (AllByRecursion P) (AllByRecursion P) (offer_all_lem P C F b.0 a) (λ R r. offers_all P R Cs r b.1)
 
 pub nil_normal : Normal []
 nil_normal = record { rising = ordered_climbs [] tt; apart = λ K L m k s. elim m [ ] }
@@ -310,7 +310,7 @@ module _ (w : ℕ) where
       heads (inr m) (inl e) = sym e
       heads (inr m) (inr k) = absurd (omega (arith, AllIn (λ z. y < z) rg.0 m, AllIn (λ z. x < z) rf.0 k))
 
-      tails : (F G : List ℕ) (x y : ℕ) → x ≡ y → All (λ z. x < z) F → (z : ℕ) → Memᴰ z F → (z ≡ y) ⊎ Memᴰ z G → Memᴰ z G
+      tails : (F G : List ℕ) (x y : ℕ) → x ≡ y → AllByRecursion (λ z. x < z) F → (z : ℕ) → Memᴰ z F → (z ≡ y) ⊎ Memᴰ z G → Memᴰ z G
       tails F G x y e a z m (inl q) = absurd (omega (arith, AllIn (λ z. x < z) a m))
       tails F G x y e a z m (inr k) = k
 

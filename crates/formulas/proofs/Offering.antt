@@ -1,6 +1,6 @@
 -- Where an offered clause stands, and what is left of the others.
 use Rattle.std.proofs.Common.{◌≡◌, ℕ, zero, suc, ◌+◌, ◌-◌, ◌<◌, ◌≤◌, true, false, cond, not, ◌&&◌, ◌||◌, ltb, leb, List, [], ◌∷◌, ◌++◌, length, get_or, take, drop, Some, None, sym, refl, ap, ◌∙◌, subst, arith}
-use Rattle.std.specs.List.{AllByRecursion as All, slice_get}
+use Rattle.std.specs.List.{AllByRecursion, slice_get}
 use Rattle.std.proofs.lemmas.List.Elements.{filter-append, filter_more}
 use Rattle.std.proofs.ByRecursion.{All-weaker, All-more, all_kept_by}
 use Rattle.std.proofs.lemmas.List.{length-map, get_or-map, map-append, take-map, drop-map, take-append-drop, take_all, length-take-le, length-drop, append_assoc, append-nil, length-append, length_push}
@@ -22,16 +22,16 @@ use Rattle.formulas.proofs.Normals.{Ordered, within_le, within_self, entered_nor
 
 -- the first i clauses neither lie within C nor come after it
 abbrev pub Passed : ℕ → List ℕ → ℕ → Type 0
-Passed C F i = (i ≤ length F) × All (λ K. (within K C ≡ false) × (K < C)) (take i F)
+Passed C F i = (i ≤ length F) × AllByRecursion (λ K. (within K C ≡ false) × (K < C)) (take i F)
 
 not_within : (K C : ℕ) → C < K → within K C ≡ false
 not_within K C h = elim (within K C) as (λ b. within K C ≡ b → b ≡ false) [ true ↦ (λ e. absurd (omega (arith, within_le K C e))) | false ↦ (λ e. refl) ] refl
 
-none_below : (C : ℕ) (F : List ℕ) → All (λ K. C < K) F → any (λ K. within K C) F ≡ false
+none_below : (C : ℕ) (F : List ℕ) → AllByRecursion (λ K. C < K) F → any (λ K. within K C) F ≡ false
 none_below C [] a = refl
 none_below C (K ∷ F) a = or_from (within K C) (any (λ K. within K C) F) (not_within K C a.0) (none_below C F a.1)
 
-placed_first : (C : ℕ) (F : List ℕ) → All (λ K. C < K) F → placed C F ≡ C ∷ F
+placed_first : (C : ℕ) (F : List ℕ) → AllByRecursion (λ K. C < K) F → placed C F ≡ C ∷ F
 placed_first C [] a = refl
 placed_first C (K ∷ F) a = cond-true (ltb C K) (C ∷ K ∷ F) (K ∷ placed C F) (lt-ltb C K a.0)
 
@@ -43,7 +43,7 @@ stands_at C [] zero o p h = record { new = refl; within_list = p.0; front = refl
 stands_at C [] (suc i) o p h = absurd (omega (arith, p.0))
 stands_at C (K ∷ F) zero o p h =
     let l : C < K = h (omega arith) in
-    let above : All (λ L. C < L) (K ∷ F) = (l, All-weaker (λ L. K < L) (λ L. C < L) (λ L q. omega arith) F o.0) in
+    let above : AllByRecursion (λ L. C < L) (K ∷ F) = (l, All-weaker (λ L. K < L) (λ L. C < L) (λ L q. omega arith) F o.0) in
     record {
       new = none_below C (K ∷ F) above;
       within_list = p.0;

@@ -1,7 +1,7 @@
 -- Bytes are read as a record exactly where they are its bytes.
 use Rattle.std.proofs.Common.{◌≡◌, ℕ, zero, suc, ◌+◌, ◌-◌, ◌≤◌, Bool, true, false, cond, ◌&&◌, eqb, ltb, leb, List, [], ◌∷◌, ◌++◌, map, length, get_or, drop, replicate, Some, None, Option, sym, refl, ap, ◌∙◌, subst, arith}
 use Rattle.std.specs.Option.{option_map}
-use Rattle.std.specs.List.{AllByRecursion as All}
+use Rattle.std.specs.List.{AllByRecursion}
 use Rattle.std.proofs.lemmas.List.{take-append-drop, drop-drop, take_at, drop_at, length-take, length-drop, length-map, length-append, length-replicate}
 use Rattle.std.proofs.lemmas.Bool.{cond-true, cond-false, and_parts, and_from, eqb-true, leb-true, le-leb, ltb-true, lt-ltb, le-ltb}
 use Rattle.foundation.specs.Tests.{all}
@@ -20,7 +20,7 @@ pub proper_fact : (s : Symbol) → proper s ≡ true → Proper s
 proper_fact (Command c) e = ltb-true c 16 e
 proper_fact (Procedure x) e = ltb-true x 32 e
 
-pub all-proper : (ss : List Symbol) → all proper ss ≡ true → All Proper ss
+pub all-proper : (ss : List Symbol) → all proper ss ≡ true → AllByRecursion Proper ss
 all-proper [] e = tt
 all-proper (s ∷ ss) e = let p = and_parts (proper s) (all proper ss) e in (proper_fact s p.0, all-proper ss p.1)
 
@@ -137,7 +137,7 @@ symbol_again (Procedure x) h =
     ∙ cond-true (leb 32 (32 + x) && ltb (32 + x) 64) (Some (Procedure (32 + x - 32))) None (and_from (leb 32 (32 + x)) (ltb (32 + x) 64) (le-leb 32 (32 + x) (omega arith)) (lt-ltb (32 + x) 64 (omega arith)))
     ∙ ap (λ y. Some (Procedure y)) back
 
-symbols_again : (ss : List Symbol) → All Proper ss → symbols_in (map symbol_byte ss) ≡ Some ss
+symbols_again : (ss : List Symbol) → AllByRecursion Proper ss → symbols_in (map symbol_byte ss) ≡ Some ss
 symbols_again [] h = refl
 symbols_again (s ∷ ss) h =
     ap (λ o. bind o (λ s. option_map (λ ss. s ∷ ss) (symbols_in (map symbol_byte ss)))) (symbol_again s h.0) ∙ ap (option_map (λ ss. s ∷ ss)) (symbols_again ss h.1)

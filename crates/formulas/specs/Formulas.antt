@@ -3,7 +3,7 @@
 use Rattle.std.specs.Prelude.{◌≡◌, ℕ, ◌^◌, ◌<◌, Bool, true, cond, not, ◌&&◌, List, [], ◌∷◌, ◌++◌, map, length, Some, None, filter, Option, bit_or, nat_lt}
 use mathlib.Core.List.{Memᴰ}
 use Rattle.std.specs.List.Sorted.{IsStrictlyIncreasing}
-use Rattle.std.specs.List.{AllByRecursion as All}
+use Rattle.std.specs.List.{AllByRecursion}
 use Rattle.foundation.specs.Sets.{within, members, gathered, hits}
 use Rattle.foundation.specs.Tests.{any, all}
 use Rattle.rules.specs.Tables.{Table, join_of}
@@ -34,7 +34,7 @@ none_within (K ∷ F) = not (any (within K) F) && none_within F
 
 -- every clause has only numbers below w
 abbrev pub BelowWidth : ℕ → List ℕ → Type 0
-BelowWidth w F = All (λ K. K < 2 ^ w) F
+BelowWidth w F = AllByRecursion (λ K. K < 2 ^ w) F
 
 -- ---- offering
 

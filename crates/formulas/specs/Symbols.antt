@@ -1,7 +1,7 @@
 -- Procedure sets as lists of records.
 use Rattle.std.specs.Prelude.{◌≡◌, ℕ, ◌<◌, ◌≤◌, Bool, cond, List, [], ◌∷◌, length, Some, None, Option, ◌==◌, nat_lt}
 use mathlib.Core.List.{Memᴰ}
-use Rattle.std.specs.List.{AllByRecursion as All}
+use Rattle.std.specs.List.{AllByRecursion}
 use Rattle.formulas.specs.declared.symbol.Owner.{Owner}
 use Rattle.formulas.specs.declared.symbol.Symbol.{Symbol}
 use Rattle.formulas.specs.declared.symbol.Symbol.TheVariants.{Command, Procedure}
@@ -26,7 +26,7 @@ pub record Entry : Type 0 where
 pub record InRange (r : Entry) : Type 0 where
   pub known : r.procedure < 32
   pub short : length r.body ≤ 9
-  pub symbols : All Proper r.body
+  pub symbols : AllByRecursion Proper r.body
 
 -- r is one of the records, and of the procedure x
 pub record Of (rs : List Entry) (x : ℕ) (r : Entry) : Type 0 where

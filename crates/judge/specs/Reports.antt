@@ -1,7 +1,7 @@
 -- What the judge reports of a chart's bytes and, if there are any, the bytes of procedures.
 use Rattle.std.specs.Prelude.{◌≡◌, ℕ, ◌<◌, ◌≤◌, List, [], length, Some, None, Ok, Err, Decides, Option, Result, slice_index_or}
 use Rattle.std.specs.Borrow.{Bor}
-use Rattle.std.specs.List.{AllByRecursion as All}
+use Rattle.std.specs.List.{AllByRecursion}
 use Rattle.foundation.specs.Bounds.{items}
 use Rattle.rules.specs.declared.fault.EffectsFault.TheVariants.{TooMany, ShortSlice}
 use Rattle.rules.specs.Automata.{Chartable, Unchartable, Accepts, LeadAlike}
@@ -34,7 +34,7 @@ pub record TooManyEffects (bytes : List ℕ) : Type 0 where
   pub chart : Chartable bytes
   pub lists : List (List ℕ)
   pub many : length lists ≡ 65
-  pub own : All (Below 16) lists
+  pub own : AllByRecursion (Below 16) lists
   pub differ : (i j : ℕ) → i < j → j < 65 → LeadAlike bytes (slice_index_or lists i []) (slice_index_or lists j []) → ⊥
 
 -- what is to be solved: a table that numbers the effects of the automaton, at most 64, and the records that were read

@@ -1,6 +1,6 @@
 -- The survey of a rule's effects is the survey of its lists of commands, effect by effect.
 use Rattle.std.proofs.Common.{◌≡◌, ℕ, zero, suc, ◌+◌, ◌<◌, ◌≤◌, Bool, true, false, cond, ltb, List, [], ◌∷◌, ◌++◌, map, length, get_or, Some, None, Option, sym, refl, ap, ◌∙◌, subst, ap₂, arith}
-use Rattle.std.specs.List.{AllByRecursion as All, range_with_len}
+use Rattle.std.specs.List.{AllByRecursion, range_with_len}
 use Rattle.std.proofs.ByRecursion.{All-get_or, All-push, All-append}
 use Rattle.std.proofs.lemmas.List.{get_or-map, length-map, map_push}
 use Rattle.std.proofs.lemmas.Bool.{ltb-true}
@@ -49,13 +49,13 @@ module _ {A B : Type 0} (f : A → B) (t : Scheme A) (s : Scheme B) (Ok : A → 
       ∙ ap (λ x. then_on x (λ r. row s n (c + 1) r (f w))) (entered_image us (t.next w c))
       ∙ on_image (entered t us (t.next w c)) (λ r. row s n (c + 1) r (f w)) (λ r. row t n (c + 1) r w) (λ more _. row_image n (c + 1) more w (omega arith) k)
 
-  walk_image : s.commands ≡ t.commands → (n i : ℕ) (us : List A) → All Ok us → walk s n i (map f us) ≡ mapped f (walk t n i us)
+  walk_image : s.commands ≡ t.commands → (n i : ℕ) (us : List A) → AllByRecursion Ok us → walk s n i (map f us) ≡ mapped f (walk t n i us)
   walk_image commands zero i us a = refl
   walk_image commands (suc n) i us a =
       ap (λ m. cond (ltb i m) (then_on (row s s.commands 0 (map f us) (get_or (map f us) i s.first)) (λ r. walk s n (i + 1) r)) (complete (map f us))) (length-map us f)
       ∙ go (ltb i (length us)) refl (λ more. walk_image commands n (i + 1) more)
     where
-      go : (b : Bool) → ltb i (length us) ≡ b → ((more : List A) → All Ok more → walk s n (i + 1) (map f more) ≡ mapped f (walk t n (i + 1) more))
+      go : (b : Bool) → ltb i (length us) ≡ b → ((more : List A) → AllByRecursion Ok more → walk s n (i + 1) (map f more) ≡ mapped f (walk t n (i + 1) more))
           → cond b (then_on (row s s.commands 0 (map f us) (get_or (map f us) i s.first)) (λ r. walk s n (i + 1) r)) (complete (map f us))
           ≡ mapped f (cond b (then_on (row t t.commands 0 us (get_or us i t.first)) (λ r. walk t n (i + 1) r)) (complete us))
       go false e ih = refl
@@ -67,7 +67,7 @@ module _ {A B : Type 0} (f : A → B) (t : Scheme A) (s : Scheme B) (Ok : A → 
           ∙ ap (λ k. then_on (row s k 0 (map f us) (f x)) (λ r. walk s n (i + 1) r)) commands
           ∙ ap (λ y. then_on y (λ r. walk s n (i + 1) r)) (row_image t.commands 0 us x (omega arith) ok)
           ∙ on_image (row t t.commands 0 us x) (λ r. walk s n (i + 1) r) (λ r. walk t n (i + 1) r)
-          (λ more p. ih more (subst (λ y. All Ok (entries y)) p ((row_grows t Ok t.commands 0 us x (λ c h. ok_next x c ok (omega arith))).all a)))
+          (λ more p. ih more (subst (λ y. AllByRecursion Ok (entries y)) p ((row_grows t Ok t.commands 0 us x (λ c h. ok_next x c ok (omega arith))).all a)))
 
 module _ {E : Type 0} (m : Meaning E) (law : Lawful m) where
   pub met_by_lists : met_effects m ≡ mapped (effect m) (met_lists (behaviour m))
@@ -99,7 +99,7 @@ module _ {E : Type 0} (m : Meaning E) (law : Lawful m) where
 
   -- ---- the table of the effects is the table of the lists
 
-  map_same : {A B : Type 0} (P : A → Type 0) (f g : A → B) (xs : List A) → All P xs → ((x : A) → P x → f x ≡ g x) → map f xs ≡ map g xs
+  map_same : {A B : Type 0} (P : A → Type 0) (f g : A → B) (xs : List A) → AllByRecursion P xs → ((x : A) → P x → f x ≡ g x) → map f xs ≡ map g xs
   map_same P f g [] a h = refl
   map_same P f g (x ∷ xs) (p, a) h = ap₂ (λ y ys. y ∷ ys) (h x p) (map_same P f g xs a h)
 
@@ -107,11 +107,11 @@ module _ {E : Type 0} (m : Meaning E) (law : Lawful m) where
   map_map f g [] = refl
   map_map f g (x ∷ xs) = ap (λ ys. g (f x) ∷ ys) (map_map f g xs)
 
-  below_counting : (a n C : ℕ) → a + n ≤ C → All (λ c. c < C) (range_with_len a n)
+  below_counting : (a n C : ℕ) → a + n ≤ C → AllByRecursion (λ c. c < C) (range_with_len a n)
   below_counting a zero C h = tt
   below_counting a (suc n) C h = (omega arith, below_counting (a + 1) n C (omega arith))
 
-  module _ (ws : List (List ℕ)) (own : All (Below m.commands) ws) where
+  module _ (ws : List (List ℕ)) (own : AllByRecursion (Below m.commands) ws) where
     numbered_image : (w : List ℕ) → numbered m.same (map (effect m) ws) (effect m w) ≡ numbered (behaviour m).same ws w
     numbered_image w = ap found (place_map (effect m) m.same 0 ws w)
 

@@ -1,6 +1,6 @@
 -- What a survey of lists meets: the lists differ, no command leads out of them, and they come in the order of meeting.
 use Rattle.std.proofs.Common.{◌≡◌, ℕ, zero, suc, ◌+◌, ◌<◌, ◌≤◌, Bool, true, false, cond, ltb, ◌⊎◌, List, [], ◌∷◌, ◌++◌, length, get_or, Some, None, Option, sym, refl, ap, ◌∙◌, subst, inl, inr, ⊎_elim, arith}
-use Rattle.std.specs.List.{AllByRecursion as All}
+use Rattle.std.specs.List.{AllByRecursion}
 use Rattle.std.proofs.ByRecursion.{All-get_or, All-push}
 use Rattle.std.proofs.lemmas.List.{get_or_append_left, get_or_push, length_push}
 use Rattle.std.proofs.lemmas.Bool.{cases_lt, ltb-false, ltb-true}
@@ -61,7 +61,7 @@ module _ (b : Behaviour) (law : LawfulBehaviour b) where
   pub record State (i c : ℕ) (reg : List (List ℕ)) : Type 0 where
     pub some : 1 ≤ length reg
     pub few : length reg ≤ 64
-    pub own : All (Below b.commands) reg
+    pub own : AllByRecursion (Below b.commands) reg
     pub first : get_or reg 0 [] ≡ []
     pub apart : (k l : ℕ) → k < l → l < length reg → b.same (get_or reg k []) (get_or reg l []) ≡ false
     pub closed : (j e : ℕ) → j < length reg → e < b.commands → Before j e i c → Known reg (length reg) (get_or reg j [] ++ e ∷ [])
@@ -195,7 +195,7 @@ module _ (b : Behaviour) (law : LawfulBehaviour b) where
   -- 64 lists that differ, and one more
   pub record Overfull (full : List (List ℕ)) (w : List ℕ) : Type 0 where
     pub size : length full ≡ 64
-    pub own : All (Below b.commands) full
+    pub own : AllByRecursion (Below b.commands) full
     pub apart : (k l : ℕ) → k < l → l < length full → b.same (get_or full k []) (get_or full l []) ≡ false
     pub more_own : Below b.commands w
     pub missing : Missing b.same [] full w

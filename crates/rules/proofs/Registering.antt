@@ -1,6 +1,6 @@
 -- The register step by step, as the code goes.
 use Rattle.std.proofs.Common.{◌≡◌, ℕ, zero, suc, ◌+◌, ◌-◌, ◌<◌, ◌≤◌, Bool, true, false, cond, ltb, ◌⊎◌, List, [], ◌∷◌, ◌++◌, length, get_or, take, drop, set, is_some, Some, None, Option, sym, refl, ap, ◌∙◌, subst, inl, inr, add-one, arith}
-use Rattle.std.specs.List.{AllByRecursion as All}
+use Rattle.std.specs.List.{AllByRecursion}
 use Rattle.std.proofs.ByRecursion.{All-push, All-get_or}
 use Rattle.std.proofs.lemmas.List.{append_assoc, drop_all, drop_at, drop-drop, drop_more, length-append, length-drop, length_push, length-take-le, take-append-drop, take_at}
 use Rattle.std.proofs.lemmas.Bool.{both_ways, cases_Bool, cond-false, cond-true, le-ltb, lt-ltb, ltb-true}
@@ -29,7 +29,7 @@ pub record Holds {E : Type 0} (own : E → Type 0) (room : ℕ) (old new reg : L
   pub count : n ≡ length reg
   pub few : n ≤ room
   pub is : new ≡ written reg old
-  pub all : All own reg
+  pub all : AllByRecursion own reg
 
 module _ {E : Type 0} (own : E → Type 0) (room : ℕ) where
   pub front : (old new reg : List E) (n : ℕ) → Holds own room old new reg n → take n new ≡ reg
@@ -39,7 +39,7 @@ module _ {E : Type 0} (own : E → Type 0) (room : ℕ) where
   long old new reg n r h = ap length h.is ∙ omega (arith, length-append reg (drop (length reg) old), length-drop (length reg) old, h.count, h.few)
 
   -- a front of the slice as it stands
-  pub holds_front : (xs : List E) (n : ℕ) → n ≤ room → room ≤ length xs → All own (take n xs) → Holds own room xs xs (take n xs) n
+  pub holds_front : (xs : List E) (n : ℕ) → n ≤ room → room ≤ length xs → AllByRecursion own (take n xs) → Holds own room xs xs (take n xs) n
   holds_front xs n few r all =
       let k : length (take n xs) ≡ n = length-take-le n xs (omega arith) in
       record { count = sym k; few = few; is = sym (ap (λ j. take n xs ++ drop j xs) k ∙ take-append-drop n xs); all = all }
@@ -71,7 +71,7 @@ module _ {E : Type 0} (s : Scheme E) where
 
   -- a register grows at its end, by the rule's own
   pub record Grows (own : E → Type 0) (reg more : List E) : Type 0 where
-    pub all : All own reg → All own more
+    pub all : AllByRecursion own reg → AllByRecursion own more
     pub longer : length reg ≤ length more
     pub few : length reg ≤ s.room → length more ≤ s.room
 

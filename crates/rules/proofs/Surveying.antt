@@ -1,6 +1,6 @@
 -- The register's loops over a rule's effects, in the terms of the code's own calls.
 use Rattle.std.proofs.Common.{◌≡◌, ℕ, ◌+◌, ◌-◌, ◌<◌, ◌≤◌, Bool, true, false, List, [], ◌∷◌, ◌++◌, length, get_or, take, drop, set, Some, None, Option, sym, refl, ap, ◌∙◌, subst, arith}
-use Rattle.std.specs.List.{AllByRecursion as All}
+use Rattle.std.specs.List.{AllByRecursion}
 use Rattle.std.proofs.ByRecursion.{All-get_or}
 use Rattle.std.proofs.lemmas.List.{drop-set-lt, get_or_read, get_or-take, length-set}
 use Rattle.rules.specs.Meaning.{Meaning, Lawful}
@@ -13,7 +13,7 @@ module _ {E : Type 0} (m : Meaning E) (law : Lawful m) where
   abbrev pub Looks : List E → E → ℕ → Type 0
   Looks met e i = place m.same i (drop i met) e ≡ place m.same 0 met e
 
-  module _ (met : List E) (e x : E) (i : ℕ) (r : Bool) (own : All m.own met) (o : m.own e) (h : i < length met) (is : x ≡ get_or met i x) (told : m.own x → m.own e → r ≡ m.same x e) (at : Looks met e i) where
+  module _ (met : List E) (e x : E) (i : ℕ) (r : Bool) (own : AllByRecursion m.own met) (o : m.own e) (h : i < length met) (is : x ≡ get_or met i x) (told : m.own x → m.own e → r ≡ m.same x e) (at : Looks met e i) where
     same_is : r ≡ m.same x e
     same_is = told (subst m.own (sym is) (All-get_or m.own met i x h own)) o
 
@@ -32,7 +32,7 @@ module _ {E : Type 0} (m : Meaning E) (law : Lawful m) where
   pub record Ready (xs : List E) (n : ℕ) : Type 0 where
     pub few : n ≤ 64
     pub room : 64 ≤ length xs
-    pub met : All m.own (take n xs)
+    pub met : AllByRecursion m.own (take n xs)
 
   -- the loop over the commands, at the command c
   abbrev pub Rows : List E → List E → ℕ → ℕ → E → Survey E → Type 0
@@ -46,7 +46,7 @@ module _ {E : Type 0} (m : Meaning E) (law : Lawful m) where
   ready old new n rest whole r at = record {
     few = at.holds.few;
     room = omega (arith, long m.own 64 old new at.reg n r at.holds);
-    met = subst (All m.own) (sym (front m.own 64 old new at.reg n at.holds)) at.holds.all;
+    met = subst (AllByRecursion m.own) (sym (front m.own 64 old new at.reg n at.holds)) at.holds.all;
   }
 
   pub next_own : (e : E) → m.own e → (k : ℕ) → k < m.commands → m.own (m.join e (m.command k))

@@ -1,7 +1,7 @@
 -- The parts of an effect table, filled from all effects that were met.
 use Rattle.std.proofs.Common.{◌≡◌, ℕ, ◌+◌, ◌*◌, ◌^◌, ◌<◌, ◌≤◌, Bool, true, false, cond, ltb, List, [], ◌∷◌, ◌++◌, map, length, get_or, take, set, is_some, Some, None, Option, sym, refl, ap, ◌∙◌, subst, ap₂, add-one, arith}
 use lib.Bits.{bit_or, or_shifted_r}
-use Rattle.std.specs.List.{AllByRecursion as All}
+use Rattle.std.specs.List.{AllByRecursion}
 use Rattle.std.proofs.ByRecursion.{All-append, All-get_or, All-map, All-weaker}
 use Rattle.std.proofs.lemmas.List.{get_or-map, get_or_read, length-map, map_more, map_push, take_more_set}
 use Rattle.std.proofs.lemmas.Bool.{both_ways, cond-true, lt-ltb}
@@ -35,8 +35,8 @@ module _ {E : Type 0} (m : Meaning E) (law : Lawful m) (met : List E) (all : All
   pub met_few : length met ≤ 64
   met_few = omega (arith, size, closed.few)
 
-  pub met_own : All m.own met
-  met_own = subst (All m.own) (sym all.effects) (All-map m.own (effect m) all.lists (All-weaker (Below m.commands) (λ w. m.own (effect m w)) (effect_own m law) all.lists closed.own))
+  pub met_own : AllByRecursion m.own met
+  met_own = subst (AllByRecursion m.own) (sym all.effects) (All-map m.own (effect m) all.lists (All-weaker (Below m.commands) (λ w. m.own (effect m w)) (effect_own m law) all.lists closed.own))
 
   pub met_known : (w : List ℕ) → Below m.commands w → is_some (place m.same 0 met (effect m w)) ≡ true
   met_known w o =

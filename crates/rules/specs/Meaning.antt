@@ -1,6 +1,6 @@
 -- What an order rule means: its effects, how they join, and which of them break it.
 use Rattle.std.specs.Prelude.{◌≡◌, ℕ, ◌<◌, ◌≤◌, Bool, true, false, List, [], ◌∷◌, Decides}
-use Rattle.std.specs.List.{AllByRecursion as All}
+use Rattle.std.specs.List.{AllByRecursion}
 
 -- All that a rule with effects of type E offers, as one value.
 pub record Meaning (E : Type 0) : Type 1 where
@@ -26,7 +26,7 @@ pub record Lawful {E : Type 0} (m : Meaning E) : Type 0 where
 
 -- A list of commands, each below n.
 abbrev pub Below : ℕ → List ℕ → Type 0
-Below n w = All (λ c. c < n) w
+Below n w = AllByRecursion (λ c. c < n) w
 
 -- The effect of a list of commands: the join of theirs, and the neutral one of none.
 abbrev pub effect : {E : Type 0} → Meaning E → List ℕ → E

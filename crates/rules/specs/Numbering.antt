@@ -1,6 +1,6 @@
 -- What it says that a table numbers the effects of a rule.
 use Rattle.std.specs.Prelude.{◌≡◌, ℕ, ◌<◌, ◌≤◌, true, false, ◌⊎◌, ◌↔◌, List, [], ◌∷◌, ◌++◌, length, Some, ◌≢◌, slice_index_or}
-use Rattle.std.specs.List.{AllByRecursion as All, slice_get}
+use Rattle.std.specs.List.{AllByRecursion, slice_get}
 use Rattle.rules.specs.Behaviours.{Behaviour, behaviour}
 use Rattle.foundation.specs.Bits.{has}
 use Rattle.rules.specs.Meaning.{Meaning, Below, effect}
@@ -47,7 +47,7 @@ pub record Numbered {E : Type 0} (m : Meaning E) (t : Table) (old new : List E) 
 pub record Exceeds {E : Type 0} (m : Meaning E) (room : ℕ) (old new : List E) : Type 0 where
   pub lists : List (List ℕ)
   pub full : length lists ≡ room
-  pub own : All (Below m.commands) lists
+  pub own : AllByRecursion (Below m.commands) lists
   pub differ : (i j : ℕ) → i < j → j < room → effect m (slice_index_or lists i []) ≢ effect m (slice_index_or lists j [])
   pub more : List ℕ
   pub more_own : Below m.commands more

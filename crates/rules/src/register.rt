@@ -3,7 +3,7 @@
 //! The caller's slice holds the effects at its front. The functions are handed that slice, or the
 //! part of it that is in use.
 ghost use Rattle.std.specs.Prelude.{◌≡◌, ◌≤◌, length, take, MatchOption};
-ghost use Rattle.std.specs.List.{AllByRecursion as All};
+ghost use Rattle.std.specs.List.{AllByRecursion};
 ghost use Rattle.rules.specs.Register.{Onward, place, entered, row, outcome, entries, written, of_effects, met_effects};
 
 use crate::rule::{Command, OrderRule};
@@ -13,7 +13,7 @@ pub(crate) const ROOM: usize = 64;
 
 /// The number of an effect, if it was met.
 pub(crate) fn find<R: OrderRule>(rule: &R, met: &[R::Effect], e: R::Effect) -> Option<usize>
-    requires met { All (R.OrderRule.meaning rule.now).own met.now }
+    requires met { AllByRecursion (R.OrderRule.meaning rule.now).own met.now }
     requires own { (R.OrderRule.meaning rule.now).own e }
     ensures { result ≡ place (R.OrderRule.meaning rule.now).same 0 met.now e }
 {
@@ -34,7 +34,7 @@ fn enter<R: OrderRule>(
 ) -> Option<usize>
     requires few { count ≤ 64 }
     requires room { 64 ≤ length slice.old }
-    requires met { All (R.OrderRule.meaning rule.now).own (take count slice.old) }
+    requires met { AllByRecursion (R.OrderRule.meaning rule.now).own (take count slice.old) }
     requires own { (R.OrderRule.meaning rule.now).own e }
     ensures count { result ≡ outcome (entered (of_effects (R.OrderRule.meaning rule.now)) (take count slice.old) e) }
     ensures slice { slice.new ≡ written (entries (entered (of_effects (R.OrderRule.meaning rule.now)) (take count slice.old) e)) slice.old }
@@ -69,7 +69,7 @@ fn extend<R: OrderRule>(
 ) -> Option<usize>
     requires few { count ≤ 64 }
     requires room { 64 ≤ length slice.old }
-    requires met { All (R.OrderRule.meaning rule.now).own (take count slice.old) }
+    requires met { AllByRecursion (R.OrderRule.meaning rule.now).own (take count slice.old) }
     requires own { (R.OrderRule.meaning rule.now).own from }
     ensures count { result ≡ outcome (row (of_effects (R.OrderRule.meaning rule.now)) (R.OrderRule.meaning rule.now).commands 0 (take count slice.old) from) }
     ensures slice { slice.new ≡ written (entries (row (of_effects (R.OrderRule.meaning rule.now)) (R.OrderRule.meaning rule.now).commands 0 (take count slice.old) from)) slice.old }

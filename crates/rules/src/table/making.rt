@@ -1,6 +1,6 @@
 //! Making the effect table of any rule.
 ghost use Rattle.std.specs.Prelude.{◌≡◌, ◌<◌, ◌≤◌, true, map, length, take, is_some};
-ghost use Rattle.std.specs.List.{AllByRecursion as All};
+ghost use Rattle.std.specs.List.{AllByRecursion};
 ghost use Rattle.rules.specs.Behaviours.{behaviour};
 ghost use Rattle.foundation.specs.Bounds.{items};
 ghost use Rattle.rules.specs.Register.{place};
@@ -44,7 +44,7 @@ impl EffectTable {
 /// The number of an effect that was met.
 fn number_of<R: OrderRule>(rule: &R, met: &[R::Effect], e: R::Effect) -> EffectNumber
     requires few { length met.now ≤ 64 }
-    requires met { All (R.OrderRule.meaning rule.now).own met.now }
+    requires met { AllByRecursion (R.OrderRule.meaning rule.now).own met.now }
     requires own { (R.OrderRule.meaning rule.now).own e }
     requires known { is_some (place (R.OrderRule.meaning rule.now).same 0 met.now e) ≡ true }
     ensures { result ≡ numbered (R.OrderRule.meaning rule.now).same met.now e }
