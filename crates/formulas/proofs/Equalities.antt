@@ -5,7 +5,12 @@ use Rattle.std.specs.Cmp.Lexicographic.{pointwise, bytes_decides}
 use Rattle.std.specs.Ordering.{on}
 use Rattle.std.specs.Prelude.{nat_eq}
 use Rattle.foundation.specs.declared.effect_set.EffectSet.{EffectSet}
+use Rattle.foundation.specs.Bits.{has}
+use Rattle.formulas.specs.declared.formula.Formula.{Formula}
 use Rattle.formulas.specs.Masks.{mask, masks}
+use Rattle.formulas.specs.Formulas.{meets}
+use Rattle.formulas.specs.FormulaViews.{formula_list, ToldApart}
+use Rattle.formulas.proofs.Normals.{test_normal, same_formula}
 
 -- the test of two lists of sets is that of their numbers
 pub tested_masks : (xs ys : List EffectSet) → pointwise (on mask nat_eq) xs ys ≡ pointwise nat_eq (masks xs) (masks ys)
@@ -14,11 +19,15 @@ tested_masks [] (y ∷ ys) = refl
 tested_masks (x ∷ xs) [] = refl
 tested_masks (x ∷ xs) (y ∷ ys) = ap (λ b. nat_eq x.bits y.bits && b) (tested_masks xs ys)
 
-pub matches_masks : (xs ys : List EffectSet) (r : Bool) → r ≡ pointwise (on mask nat_eq) xs ys → Decides r (masks xs ≡ masks ys)
-matches_masks xs ys r m =
-    let d = bytes_decides (masks xs) (masks ys) in
-    let e : r ≡ pointwise nat_eq (masks xs) (masks ys) = m ∙ tested_masks xs ys in
-    (λ t. d.0 (sym e ∙ t), λ h. e ∙ d.1 h)
+-- the test of two formulas' clauses, which `==` answers and `!=` negates, tells them apart
+pub formulas_told : (a b : Formula) → ToldApart (formula_list a) (formula_list b) (on formula_list (pointwise nat_eq) a b)
+formulas_told a b =
+    let F = formula_list a in
+    let G = formula_list b in
+    let d = bytes_decides F G in
+    let f = test_normal F a.clauses.rising a.clauses.apart in
+    let g = test_normal G b.clauses.rising b.clauses.apart in
+    record { equal = d; alike = λ w k l. (λ e S h. ap (meets (has S)) (d.0 e), λ h. d.1 (same_formula w F G f g k l h)) }
 
 -- lists of one length that are equal at each place are equal
 pub list_ext : {X : Type 0} (xs ys : List X) (d : X) → length xs ≡ length ys → ((k : ℕ) → k < length xs → get_or xs k d ≡ get_or ys k d) → xs ≡ ys

@@ -59,9 +59,9 @@ within_le K L e = omega (arith, eqb-true (bit_and K L) K e, and_le_r K L)
 
 -- ---- as a test
 
-AllIn : (P : ℕ → Type 0) {x : ℕ} {xs : List ℕ} → AllByRecursion P xs → Memᴰ x xs → P x
-AllIn P a (Memᴰ.head e) = subst P (sym e) a.0
-AllIn P a (Memᴰ.tail m) = AllIn P a.1 m
+All-in : (P : ℕ → Type 0) {x : ℕ} {xs : List ℕ} → AllByRecursion P xs → Memᴰ x xs → P x
+All-in P a (Memᴰ.head e) = subst P (sym e) a.0
+All-in P a (Memᴰ.tail m) = All-in P a.1 m
 
 pub normal_test : (F : List ℕ) → Normal F → none_within F ≡ true
 normal_test F n = go F (climbs_ordered F n.rising) n.apart
@@ -72,7 +72,7 @@ normal_test F n = go F (climbs_ordered F n.rising) n.apart
       where
         new : any (within K) F ≡ false
         new = ⊎_elim
-            (λ e. let r = any_in (within K) F e in absurd (omega (arith, a K r.0 (Memᴰ.head refl) (Memᴰ.tail r.1) r.2, AllIn (λ L. K < L) o.0 r.1)))
+            (λ e. let r = any_in (within K) F e in absurd (omega (arith, a K r.0 (Memᴰ.head refl) (Memᴰ.tail r.1) r.2, All-in (λ L. K < L) o.0 r.1)))
             (λ e. e)
             (cases_Bool (any (within K) F))
 
@@ -84,7 +84,7 @@ test_normal F c t = record { rising = c; apart = λ K L k l e. go F (climbs_orde
     go (M ∷ F) o t K L (Memᴰ.head p) (Memᴰ.head q) e = p ∙ sym q
     go (M ∷ F) o t K L (Memᴰ.head p) (Memᴰ.tail l) e =
         absurd (both_ways (any (within M) F) (not-true (any (within M) F) (and_parts (not (any (within M) F)) (none_within F) t).0) (in_any (within M) l (ap (λ x. within x L) (sym p) ∙ e)))
-    go (M ∷ F) o t K L (Memᴰ.tail k) (Memᴰ.head q) e = absurd (omega (arith, AllIn (λ y. M < y) o.0 k, within_le K L e))
+    go (M ∷ F) o t K L (Memᴰ.tail k) (Memᴰ.head q) e = absurd (omega (arith, All-in (λ y. M < y) o.0 k, within_le K L e))
     go (M ∷ F) o t K L (Memᴰ.tail k) (Memᴰ.tail l) e = go F o.1 (and_parts (not (any (within M) F)) (none_within F) t).1 K L k l e
 
 -- ---- an offer keeps the form
@@ -290,8 +290,8 @@ module _ (w : ℕ) where
       let l = not_all_in (hits (has (rest_of w K))) G (sym (same (rest_of w K) (small K)) ∙ in_not_all (hits (has (rest_of w K))) m (rest_misses K)) in
       let L = l.0 in
       let k = not_all_in (hits (has (rest_of w L))) F (same (rest_of w L) (small L) ∙ in_not_all (hits (has (rest_of w L))) l.1 (rest_misses L)) in
-      let lk = missed_within L K (AllIn (λ K. K < 2 ^ w) bg l.1) l.2 in
-      let kl = missed_within k.0 L (AllIn (λ K. K < 2 ^ w) bf k.1) k.2 in
+      let lk = missed_within L K (All-in (λ K. K < 2 ^ w) bg l.1) l.2 in
+      let kl = missed_within k.0 L (All-in (λ K. K < 2 ^ w) bf k.1) k.2 in
       let e : k.0 ≡ K = nf.apart k.0 K k.1 m (within_trans k.0 L K kl lk) in
       Memᴰ.cast (within_antisym K L (rw e at kl) lk) l.1
 
@@ -308,10 +308,10 @@ module _ (w : ℕ) where
       heads : (x ≡ y) ⊎ Memᴰ x G → (y ≡ x) ⊎ Memᴰ y F → x ≡ y
       heads (inl e) q = e
       heads (inr m) (inl e) = sym e
-      heads (inr m) (inr k) = absurd (omega (arith, AllIn (λ z. y < z) rg.0 m, AllIn (λ z. x < z) rf.0 k))
+      heads (inr m) (inr k) = absurd (omega (arith, All-in (λ z. y < z) rg.0 m, All-in (λ z. x < z) rf.0 k))
 
       tails : (F G : List ℕ) (x y : ℕ) → x ≡ y → AllByRecursion (λ z. x < z) F → (z : ℕ) → Memᴰ z F → (z ≡ y) ⊎ Memᴰ z G → Memᴰ z G
-      tails F G x y e a z m (inl q) = absurd (omega (arith, AllIn (λ z. x < z) a m))
+      tails F G x y e a z m (inl q) = absurd (omega (arith, All-in (λ z. x < z) a m))
       tails F G x y e a z m (inr k) = k
 
   pub same_formula : (F G : List ℕ) → Normal F → Normal G → BelowWidth w F → BelowWidth w G → ((S : ℕ) → S < 2 ^ w → meets (has S) F ≡ meets (has S) G) → F ≡ G

@@ -164,16 +164,16 @@ module _ (bytes : List ℕ) (boxes : List ℕ) (finals : List Bool) (boxed : (c 
 -- ---- the loop that looks for a final state
 
 module _ (finals : List Bool) (a : ℕ) where
-  abbrev pub EndsAt : ℕ → Bool
-  EndsAt q = get_or finals q false && pairs a 0 q
+  abbrev pub ends_at : ℕ → Bool
+  ends_at q = get_or finals q false && pairs a 0 q
 
   pub ends_here : (q : ℕ) → q < 8 → get_or finals q false ≡ true → bit_and (a / 2 ^ q) 1 ≡ 1 → true ≡ accepting finals a
   ends_here q h f t =
       let bit : pairs a 0 q ≡ true = ap (has a) (zero-add q) ∙ sym (bit_test a q) ∙ eq-eqb (bit_and (a / 2 ^ q) 1) 1 t in
-      sym ((some_is 8 EndsAt).1 (q, h, and_from (get_or finals q false) (pairs a 0 q) f bit))
+      sym ((some_is 8 ends_at).1 (q, h, and_from (get_or finals q false) (pairs a 0 q) f bit))
 
-  pub no_bit : (q : ℕ) → (bit_and (a / 2 ^ q) 1 ≡ 1 → ⊥) → EndsAt q ≡ false
+  pub no_bit : (q : ℕ) → (bit_and (a / 2 ^ q) 1 ≡ 1 → ⊥) → ends_at q ≡ false
   no_bit q t = and_right (get_or finals q false) (pairs a 0 q) (ap (has a) (zero-add q) ∙ sym (bit_test a q) ∙ ne_eqb (bit_and (a / 2 ^ q) 1) 1 t)
 
-  pub ends_more : (q : ℕ) → some_below q EndsAt ≡ false → EndsAt q ≡ false → some_below (q + 1) EndsAt ≡ false
-  ends_more q h here = some_more q EndsAt ∙ or_from (EndsAt q) (some_below q EndsAt) here h
+  pub ends_more : (q : ℕ) → some_below q ends_at ≡ false → ends_at q ≡ false → some_below (q + 1) ends_at ≡ false
+  ends_more q h here = some_more q ends_at ∙ or_from (ends_at q) (some_below q ends_at) here h

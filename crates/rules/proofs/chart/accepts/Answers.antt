@@ -3,12 +3,12 @@ use Rattle.std.proofs.lemmas.Bool.{and_left}
 use Rattle.foundation.specs.Bits.{some_below}
 use Rattle.rules.specs.Boxes.{pairs}
 use Rattle.foundation.specs.Laws.Bits.{some_none}
-use Rattle.rules.proofs.Charting.{EndsAt, ends_here, ends_more, no_bit}
+use Rattle.rules.proofs.Charting.{ends_at, ends_here, ends_more, no_bit}
 use Rattle.rules.proofs.chart.accepts.Goals as goal
 use Rattle.rules.proofs.chart.accepts.Goals.{else-finals-from-via-then-finals-from+else-a-q-eq1, else-finals-from-via-else-finals-from}
 
 pub loop-q-init : goal.loop-q-init
-loop-q-init c = some_none (EndsAt c.args.finals.now c.args.a)
+loop-q-init c = some_none (ends_at c.args.finals.now c.args.a)
 
 pub loop-q-preserved : goal.loop-q-preserved
 loop-q-preserved c =
@@ -29,4 +29,4 @@ returns-then-a-q-eq1 c =
 pub returns : goal.returns
 returns c =
     let e : c.loop-q.q ≡ 8 = omega arith in
-    sym (subst (λ n. some_below n (EndsAt c.args.finals.now c.args.a) ≡ false) e c.loop-q.invariant)
+    sym (subst (λ n. some_below n (ends_at c.args.finals.now c.args.a) ≡ false) e c.loop-q.invariant)
