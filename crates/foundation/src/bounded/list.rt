@@ -1,5 +1,5 @@
 //! What can be done with a bounded list, said by the items that it holds.
-ghost use Rattle.std.specs.Prelude.{◌≡◌, ◌<◌, ltb, List, [], ◌∷◌, ◌++◌, length, if◌then◌else◌, MatchOption, nat_lt};
+ghost use Rattle.std.specs.Prelude.{◌≡◌, ◌<◌, List, [], ◌∷◌, ◌++◌, length, if◌then◌else◌, MatchOption, nat_lt};
 ghost use Rattle.std.specs.List.{slice_get};
 ghost use Rattle.foundation.specs.Bounds.{items};
 
@@ -36,7 +36,7 @@ impl<T: Copy, const N: usize> Bounded<T, N> {
     /// Puts one more item at the end: whether there was room for it.
     pub fn push(&mut self, item: T) -> bool
         ensures room { result ≡ nat_lt (length (items self.old)) N }
-        ensures items { items self.new ≡ (if ltb (length (items self.old)) N then items self.old ++ item ∷ [] else items self.old) }
+        ensures items { items self.new ≡ (if nat_lt (length (items self.old)) N then items self.old ++ item ∷ [] else items self.old) }
     {
         if self.len >= N {
             return false;
