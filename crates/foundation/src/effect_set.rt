@@ -7,7 +7,6 @@ ghost use Rattle.std.specs.Ordering.{on};
 ghost use Rattle.std.specs.List.{slice_get};
 ghost use Rattle.std.specs.Cmp.Rules.{comparing};
 ghost use Rattle.std.proofs.Common.{rules};
-ghost use Rattle.std.specs.Cmp as Keys;
 
 use std::fmt;
 use std::fmt::Display;
@@ -132,7 +131,7 @@ impl EffectSet {
 impl PartialEq for EffectSet {
     ghost eq = { on (λ v. v.bits) nat_eq };
 
-    ghost laws = { Keys.partial_equiv_from_equiv (Prim.search (comparing, rules)) };
+    ghost laws = { Prim.search (comparing, rules) };
 
     fn eq(&self, other: &EffectSet) -> bool
         ensures value { result ≡ on (λ v. v.bits) nat_eq self.now other.now }
