@@ -61,19 +61,3 @@ module _ (rs : List Entry) (t : Table) (a d : ℕ) (L : List (List ℕ)) (h : d 
 
 pub settle_none : (rs : List Entry) (t : Table) (a d : ℕ) (L : List (List ℕ)) → d ≡ a → settle rs t (a - d) d L ≡ Err (Unsettled a)
 settle_none rs t a d L h = let n : a - d ≡ 0 = omega arith in ap (λ n. settle rs t n d L) n ∙ ap (λ k. Err (Unsettled k)) h
-
--- ---- the search for a record, by number
-
-module _ {X : Type 0} (good : X → Bool) (xs : List X) where
-  abbrev pub Looking : ℕ → Type 0
-  Looking i = first_bad good i (drop i xs) ≡ first_bad good 0 xs
-
-  module _ (i : ℕ) (x : X) (at : Some x ≡ slice_get xs i) (l : Looking i) where
-    pub looking_more : good x ≡ true → Looking (i + 1)
-    looking_more g = sym (ap (first_bad good i) (drop_nth xs i x at) ∙ cond-true (good x) (first_bad good (i + 1) (drop (i + 1) xs)) (Some i) g) ∙ l
-
-    pub looking_found : good x ≡ false → Some i ≡ first_bad good 0 xs
-    looking_found g = sym (ap (first_bad good i) (drop_nth xs i x at) ∙ cond-false (good x) (first_bad good (i + 1) (drop (i + 1) xs)) (Some i) g) ∙ l
-
-  pub looking_end : (i : ℕ) → length xs ≤ i → Looking i → None ≡ first_bad good 0 xs
-  looking_end i h l = sym (ap (first_bad good i) (drop_all i xs h)) ∙ l
