@@ -36,7 +36,7 @@ impl ProcedureSet {
     pub fn owner(&self, p: Procedure) -> Option<Owner>
         ensures { result ≡ owner_of (entries self.now) p }
     {
-        first_owner(self.records.as_slice(), p)
+        first_owner(self.records(), p)
     }
 }
 

@@ -11,5 +11,5 @@ invariant-loop-i l = record {
   formed : Forming l.bytes (map entry_of (items l.records)) (enumerate_count l.i-iterator);
   counted : length (items l.records) ≡ enumerate_count l.i-iterator;
   cut : Cut l.bytes (chunks_exact_rest (enumerate_source l.i-iterator)) (enumerate_count l.i-iterator);
-  size : chunks_exact_size (enumerate_source l.i-iterator) ≡ 12
+  size : chunks_exact_size (enumerate_source l.i-iterator) ≡ 12;
 }
