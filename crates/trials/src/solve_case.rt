@@ -63,7 +63,7 @@ impl SolveCase {
 fn read_form(words: &mut Words<'_>) -> Result<Vec<Symbol>, Fault> {
     let mut form = Vec::new(words.heap());
     for byte in words.bytes()?.as_slice() {
-        form.push(Symbol::from_byte(*byte).ok_or(Fault::Malformed)?)?;
+        form.push(Symbol::try_from(*byte).map_err(|_| Fault::Malformed)?)?;
     }
     Ok(form)
 }
