@@ -96,15 +96,15 @@ fn rows(set: &ProcedureSet, solution: &Solution) -> Bounded<Row, 32>
         clauses: 0,
     });
     for procedure in 0..PROCEDURES {
-        let Some(owner) = set.owner(procedure) else {
-            continue;
-        };
-        let formula = solution.formula(procedure);
-        told.push(Row {
-            procedure,
-            owner,
-            clauses: formula.clauses().len(),
-        });
+        if let Some(owner) = set.owner(procedure) {
+            let clauses = solution.formula(procedure).clauses().len();
+            let row = Row {
+                procedure,
+                owner,
+                clauses,
+            };
+            told.push(row).unwrap();
+        }
     }
     told
 }
