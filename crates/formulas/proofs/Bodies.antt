@@ -1,26 +1,40 @@
 -- The formula of a list of symbols, worked out from its end.
-use Rattle.std.proofs.Common.{◌≡◌, ℕ, zero, suc, ◌+◌, ◌-◌, ◌<◌, ◌≤◌, List, [], ◌∷◌, length, get_or, drop, Some, None, Option, ap, ◌∙◌, arith}
-use Rattle.std.proofs.lemmas.List.{drop_more, drop_all}
+use Rattle.std.proofs.Common.{◌≡◌, ℕ, List, [], ◌∷◌, ◌++◌, length, Some, None, Option, sym, ap, ◌∙◌, append_assoc, append-nil, arith}
+use Rattle.std.specs.List.{push}
 use Rattle.rules.specs.Tables.{Table}
 use Rattle.formulas.specs.declared.symbol.Symbol.{Symbol}
 use Rattle.formulas.specs.Formulas.{neutral}
 use Rattle.formulas.specs.Rounds.{in_front, body_formula}
 use Rattle.formulas.specs.Steps.{bind}
 
-module _ (limit : ℕ) (t : Table) (L : List (List ℕ)) where
-  pub body_end : (s : List Symbol) → body_formula limit t L (drop (length s) s) ≡ Some neutral
-  body_end s = ap (body_formula limit t L) (drop_all (length s) s (omega arith))
+module _ (limit : ℕ) (t : Table) (L : List (List ℕ)) (body : List Symbol) where
+  -- behind the symbols that are left, the body has the formula F
+  pub record Behind (left : List Symbol) (F : List ℕ) : Type 0 where
+    pub done : List Symbol
+    pub whole : left ++ done ≡ body
+    pub formula : body_formula limit t L done ≡ Some F
 
-  -- one symbol more in front
-  pub body_more : (s : List Symbol) (i : ℕ) (d : Symbol) (F : List ℕ) (o : Option (List ℕ)) → 0 < i → i ≤ length s → body_formula limit t L (drop i s) ≡ Some F → in_front limit t L (get_or s (i - 1) d) F ≡ o
-      → body_formula limit t L (drop (i - 1) s) ≡ o
-  body_more s i d F o p h e f =
-      let n : i - 1 + 1 ≡ i = omega arith in
-      ap (body_formula limit t L) (drop_more s (i - 1) d (omega arith) ∙ ap (λ k. get_or s (i - 1) d ∷ drop k s) n)
-      ∙ ap (λ x. bind x (in_front limit t L (get_or s (i - 1) d))) e ∙ f
+  pub behind_start : (left : List Symbol) (F : List ℕ) → left ≡ body → F ≡ neutral → Behind left F
+  behind_start left F e f = record { done = []; whole = append-nil left ∙ e; formula = ap Some (sym f) }
 
-  -- where a part has none, the whole has none
-  pub body_none : (s : List Symbol) (i : ℕ) → body_formula limit t L (drop i s) ≡ None → body_formula limit t L s ≡ None
-  body_none s zero e = e
-  body_none [] (suc i) e = e
-  body_none (x ∷ s) (suc i) e = ap (λ o. bind o (in_front limit t L x)) (body_none s i e)
+  module _ (left next : List Symbol) (s : Symbol) (F : List ℕ) (cut : left ≡ push next s) (b : Behind left F) where
+    with_front : next ++ s ∷ b.done ≡ body
+    with_front = sym (append_assoc next (s ∷ []) b.done) ∙ ap (λ l. l ++ b.done) (sym cut) ∙ b.whole
+
+    front_is : (o : Option (List ℕ)) → in_front limit t L s F ≡ o → body_formula limit t L (s ∷ b.done) ≡ o
+    front_is o e = ap (λ x. bind x (in_front limit t L s)) b.formula ∙ e
+
+    pub behind_more : (G : List ℕ) → in_front limit t L s F ≡ Some G → Behind next G
+    behind_more G e = record { done = s ∷ b.done; whole = with_front; formula = front_is (Some G) e }
+
+    -- where a part has none, the whole has none
+    pub behind_none : in_front limit t L s F ≡ None → body_formula limit t L body ≡ None
+    behind_none e = ap (body_formula limit t L) (sym with_front) ∙ go next
+      where
+        go : (xs : List Symbol) → body_formula limit t L (xs ++ s ∷ b.done) ≡ None
+        go [] = front_is None e
+        go (x ∷ xs) = ap (λ o. bind o (in_front limit t L x)) (go xs)
+
+  pub behind_all : (left : List Symbol) (F : List ℕ) → length left ≡ 0 → Behind left F → body_formula limit t L body ≡ Some F
+  behind_all [] F h b = ap (body_formula limit t L) (sym b.whole) ∙ b.formula
+  behind_all (x ∷ left) F h b = absurd (omega arith)

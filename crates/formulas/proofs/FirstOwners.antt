@@ -1,31 +1,23 @@
--- The loop that looks for the first record of a procedure, and what it finds.
-use Rattle.std.proofs.Common.{◌≡◌, ℕ, zero, suc, ◌+◌, ◌<◌, ◌≤◌, cond, eqb, List, [], ◌∷◌, map, length, get_or, drop, Some, None, sym, refl, ap, ◌∙◌}
+-- The owner of a procedure, by std's search for its first record.
+use Rattle.std.proofs.Common.{◌≡◌, ℕ, Bool, true, false, cond, ◌==◌, List, [], ◌∷◌, map, Some, None, Option, refl, ap, ◌∙◌, Bor}
 use Rattle.std.specs.Option.{option_map}
-use Rattle.std.specs.List.{slice_get}
-use Rattle.std.proofs.lemmas.List.{drop_more, drop_all}
-use Rattle.std.proofs.lemmas.Bool.{eq-eqb, ne_eqb}
+use Rattle.std.specs.List.{find}
 use Rattle.formulas.specs.Symbols.{Entry, owner_of}
 
-pub nth_map : {X Y : Type 0} (f : X → Y) (xs : List X) (i : ℕ) → slice_get (map f xs) i ≡ option_map f (slice_get xs i)
-nth_map f [] i = refl
-nth_map f (x ∷ xs) zero = refl
-nth_map f (x ∷ xs) (suc i) = nth_map f xs i
+module _ {X : Type 0} (f : X → Entry) (x : ℕ) where
+  found_owner : (xs : List X) → option_map (λ r. (f r).owner) (find (λ r. (f r).procedure == x) xs) ≡ owner_of (map f xs) x
+  found_owner [] = refl
+  found_owner (y ∷ ys) = go ((f y).procedure == x) (found_owner ys)
+    where
+      go : (b : Bool) → option_map (λ r. (f r).owner) (find (λ r. (f r).procedure == x) ys) ≡ owner_of (map f ys) x
+          → option_map (λ r. (f r).owner) (cond b (Some y) (find (λ r. (f r).procedure == x) ys)) ≡ cond b (Some (f y).owner) (owner_of (map f ys) x)
+      go true e = refl
+      go false e = e
 
-module _ {X : Type 0} (f : X → Entry) (xs : List X) (p : ℕ) where
-  abbrev pub Owning : ℕ → Type 0
-  Owning i = owner_of (map f (drop i xs)) p ≡ owner_of (map f xs) p
+  behind : (o : Option (Bor X)) → option_map (λ r. (f r.now).owner) o ≡ option_map (λ r. (f r).owner) (option_map (λ r. r.now) o)
+  behind None = refl
+  behind (Some r) = refl
 
-  owning_step : (i : ℕ) (x : X) → i < length xs → x ≡ get_or xs i x → Owning i → cond (eqb (f x).procedure p) (Some (f x).owner) (owner_of (map f (drop (i + 1) xs)) p) ≡ owner_of (map f xs) p
-  owning_step i x h is at =
-      ap (λ y. cond (eqb (f y).procedure p) (Some (f y).owner) (owner_of (map f (drop (i + 1) xs)) p)) is ∙ sym (ap (λ l. owner_of (map f l) p) (drop_more xs i x h)) ∙ at
-
-  pub owning_more : (i : ℕ) (x : X) → i < length xs → x ≡ get_or xs i x → ((f x).procedure ≡ p → ⊥) → Owning i → Owning (i + 1)
-  owning_more i x h is n at =
-      ap (λ b. cond b (Some (f x).owner) (owner_of (map f (drop (i + 1) xs)) p)) (sym (ne_eqb (f x).procedure p n)) ∙ owning_step i x h is at
-
-  pub owning_found : (i : ℕ) (x : X) → i < length xs → x ≡ get_or xs i x → (f x).procedure ≡ p → Owning i → Some (f x).owner ≡ owner_of (map f xs) p
-  owning_found i x h is e at =
-      ap (λ b. cond b (Some (f x).owner) (owner_of (map f (drop (i + 1) xs)) p)) (sym (eq-eqb (f x).procedure p e)) ∙ owning_step i x h is at
-
-  pub owning_end : (i : ℕ) → length xs ≤ i → Owning i → None ≡ owner_of (map f xs) p
-  owning_end i h at = sym (ap (λ l. owner_of (map f l) p) (drop_all i xs h)) ∙ at
+  -- where the search finds o, its owner is the procedure's
+  pub owner_found : (xs : List X) (o : Option (Bor X)) → option_map (λ r. r.now) o ≡ find (λ r. (f r).procedure == x) xs → option_map (λ r. (f r.now).owner) o ≡ owner_of (map f xs) x
+  owner_found xs o e = behind o ∙ ap (option_map (λ r. (f r).owner)) e ∙ found_owner xs

@@ -1,8 +1,8 @@
 -- Reading a record from its bytes.
-use Rattle.std.proofs.Common.{◌≡◌, ℕ, ◌+◌, ◌-◌, ◌<◌, ◌≤◌, Bool, true, false, cond, ◌&&◌, eqb, ltb, leb, List, [], ◌∷◌, ◌++◌, length, get_or, take, drop, Some, None, Option, sym, refl, ap, ◌∙◌, append_assoc, append-nil, arith}
+use Rattle.std.proofs.Common.{◌≡◌, ℕ, ◌+◌, ◌-◌, ◌<◌, ◌≤◌, Bool, true, false, cond, ◌&&◌, eqb, ltb, leb, List, [], ◌∷◌, ◌++◌, length, get_or, take, drop, Some, None, Option, sym, refl, ap, ap₂, ◌∙◌, append_assoc, append-nil, arith}
 use Rattle.std.specs.Option.{option_map}
-use Rattle.std.proofs.lemmas.List.{drop_more, drop_all, take_rest}
-use Rattle.std.proofs.lemmas.Bool.{cond-true, cond-false, and_from, and_right, eq-eqb, le-leb, lt-ltb, and_parts, ltb-true, leb-true}
+use Rattle.std.proofs.lemmas.List.{drop_more, drop_all, drop-drop, take_rest}
+use Rattle.std.proofs.lemmas.Bool.{cond-true, and_from, eq-eqb, le-leb, lt-ltb, and_parts, ltb-true, leb-true}
 use Rattle.foundation.specs.Tests.{all}
 use Rattle.formulas.specs.declared.symbol.Owner.{Owner}
 use Rattle.formulas.specs.declared.symbol.Symbol.{Symbol}
@@ -77,19 +77,9 @@ abbrev pub entry_from : List ℕ → Option Owner → Option (List Symbol) → O
 entry_from bs o r = bind o (λ o. option_map (λ ss. record { procedure = get_or bs 0 0; owner = o; body = ss }) r)
 
 module _ (bs : List ℕ) where
-  -- the parts as the code takes them
-  body_part : (n : ℕ) → n ≡ get_or bs 2 0 → take (3 + n - 3) (drop 3 bs) ≡ body_bytes bs
-  body_part n e = let k : 3 + n - 3 ≡ get_or bs 2 0 = omega arith in ap (λ m. take m (drop 3 bs)) k
-
-  fill_part : (n : ℕ) → n ≡ get_or bs 2 0 → take (length bs - (3 + n)) (drop (3 + n) bs) ≡ fill_bytes bs
-  fill_part n e = take_rest bs (3 + n) ∙ ap (λ m. drop (3 + m) bs) e
-
-  entry_unframed : framed bs ≡ false → None ≡ entry_in bs
-  entry_unframed e = sym (cond-false (framed bs) _ None e)
-
-  pub entry_unfilled : (n : ℕ) → n ≡ get_or bs 2 0 → false ≡ all (λ b. eqb b 255) (take (length bs - (3 + n)) (drop (3 + n) bs)) → None ≡ entry_in bs
-  entry_unfilled n is e = entry_unframed
-      (and_right (eqb (length bs) 12) _ (and_right (ltb (get_or bs 0 0) 32) _ (and_right (leb (get_or bs 2 0) 9) _ (sym (e ∙ ap (all (λ b. eqb b 255)) (fill_part n is))))))
+  -- what comes after the first three bytes, as the code cuts it
+  abbrev rest : List ℕ
+  rest = take (length bs - 3) (drop 3 bs)
 
   pub framed_from : length bs ≡ 12 → get_or bs 0 0 < 32 → get_or bs 2 0 ≤ 9 → all (λ b. eqb b 255) (fill_bytes bs) ≡ true → framed bs ≡ true
   framed_from n p l f = and_from (eqb (length bs) 12) _ (eq-eqb (length bs) 12 n) (and_from (ltb (get_or bs 0 0) 32) _ (lt-ltb (get_or bs 0 0) 32 p) (and_from (leb (get_or bs 2 0) 9) _ (le-leb (get_or bs 2 0) 9 l) f))
@@ -97,9 +87,16 @@ module _ (bs : List ℕ) where
   pub entry_framed : framed bs ≡ true → entry_from bs (owner_in (get_or bs 1 0)) (symbols_in (body_bytes bs)) ≡ entry_in bs
   entry_framed f = sym (cond-true (framed bs) (entry_from bs (owner_in (get_or bs 1 0)) (symbols_in (body_bytes bs))) None f)
 
-  pub entry_read : (o : Owner) (ss : List Symbol) (n : ℕ) → n ≡ get_or bs 2 0 → length bs ≡ 12 → get_or bs 0 0 < 32 → get_or bs 2 0 ≤ 9
-      → true ≡ all (λ b. eqb b 255) (take (length bs - (3 + n)) (drop (3 + n) bs)) → Some o ≡ owner_in (get_or bs 1 0) → Some ss ≡ symbols_in (take (3 + n - 3) (drop 3 bs))
-      → Some (record { procedure = get_or bs 0 0; owner = o; body = ss }) ≡ entry_in bs
-  entry_read o ss n is len p l f w b =
-      ap (λ x. entry_from bs x (Some ss)) w ∙ ap (entry_from bs (owner_in (get_or bs 1 0))) (b ∙ ap symbols_in (body_part n is))
-      ∙ entry_framed (framed_from len p l (sym (f ∙ ap (all (λ b. eqb b 255)) (fill_part n is))))
+  module _ (n : ℕ) (body fill : List ℕ) (is : n ≡ get_or bs 2 0) (front : body ≡ take n rest) (back : fill ≡ drop n rest) where
+    body_part : body ≡ body_bytes bs
+    body_part = front ∙ ap₂ take is (take_rest bs 3)
+
+    fill_part : fill ≡ fill_bytes bs
+    fill_part = back ∙ ap₂ drop is (take_rest bs 3) ∙ drop-drop (get_or bs 2 0) 3 bs
+
+    pub entry_read : (o : Owner) (ss : List Symbol) → length bs ≡ 12 → get_or bs 0 0 < 32 → get_or bs 2 0 ≤ 9
+        → true ≡ all (λ b. eqb b 255) fill → Some o ≡ owner_in (get_or bs 1 0) → Some ss ≡ symbols_in body
+        → Some (record { procedure = get_or bs 0 0; owner = o; body = ss }) ≡ entry_in bs
+    entry_read o ss len p l f w b =
+        ap (λ x. entry_from bs x (Some ss)) w ∙ ap (entry_from bs (owner_in (get_or bs 1 0))) (b ∙ ap symbols_in body_part)
+        ∙ entry_framed (framed_from len p l (sym (f ∙ ap (all (λ b. eqb b 255)) fill_part)))

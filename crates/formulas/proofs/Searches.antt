@@ -1,12 +1,30 @@
--- Loops that look for the first of a list that fails a test.
-use Rattle.std.proofs.Common.{◌≡◌, ℕ, zero, suc, ◌+◌, ◌<◌, ◌≤◌, Bool, true, false, cond, ◌&&◌, List, [], ◌∷◌, map, length, get_or, drop, Some, None, Option, sym, refl, ap, ◌∙◌, subst, arith}
-use Rattle.std.specs.List.{slice_get}
+-- Searches for the first of a list that fails a test: by std's words, and what was found.
+use Rattle.std.proofs.Common.{◌≡◌, ℕ, zero, suc, ◌+◌, ◌<◌, ◌≤◌, Bool, true, false, not, cond, ◌&&◌, List, [], ◌∷◌, map, length, get_or, drop, Some, None, Option, sym, refl, ap, ◌∙◌, subst, arith}
+use Rattle.std.specs.List.{slice_get, list_all, position}
+use Rattle.std.proofs.lemmas.Iterator.Adapters.{position_from-zero}
 use Rattle.std.proofs.lemmas.List.{drop_more, drop_all}
 use Rattle.std.proofs.lemmas.Bool.{and_from, and_parts, cond-true, cond-false}
 use Rattle.foundation.specs.Tests.{all}
 use Rattle.formulas.specs.Searches.{first_bad}
 
--- ---- whether all pass
+-- ---- the searches of the code, which are std's
+
+list_all_is : {X : Type 0} (p : X → Bool) (xs : List X) → list_all p xs ≡ all p xs
+list_all_is p [] = refl
+list_all_is p (x ∷ xs) = ap (λ b. p x && b) (list_all_is p xs)
+
+pub all_from : {X : Type 0} (p : X → Bool) (xs : List X) (r : Bool) → r ≡ list_all p xs → r ≡ all p xs
+all_from p xs r e = e ∙ list_all_is p xs
+
+first_bad-map : {X Y : Type 0} (good : Y → Bool) (f : X → Y) (i : ℕ) (xs : List X) → first_bad (λ x. good (f x)) i xs ≡ first_bad good i (map f xs)
+first_bad-map good f i [] = refl
+first_bad-map good f i (x ∷ xs) = ap (cond (not (good (f x))) (Some i)) (first_bad-map good f (i + 1) xs)
+
+-- the first that fails, of what f makes of the list
+pub first_bad_from : {X Y : Type 0} (good : Y → Bool) (f : X → Y) (xs : List X) (r : Option ℕ) → r ≡ position (λ x. not (good (f x))) xs → r ≡ first_bad good 0 (map f xs)
+first_bad_from good f xs r e = e ∙ position_from-zero (λ x. not (good (f x))) xs ∙ first_bad-map good f 0 xs
+
+-- ---- a loop that stops at the first that fails
 
 module _ {X : Type 0} (p : X → Bool) (xs : List X) where
   abbrev pub Passing : ℕ → Type 0
@@ -21,29 +39,8 @@ module _ {X : Type 0} (p : X → Bool) (xs : List X) where
   pub passing_stop : (i : ℕ) (x d : X) → i < length xs → x ≡ get_or xs i d → p x ≡ false → Passing i → false ≡ all p xs
   passing_stop i x d h is t at = ap (λ b. b && all p (drop (i + 1) xs)) (sym t) ∙ passing_step i x d h is at
 
-  pub passed_like : (ys : List X) (t : Bool) → xs ≡ ys → t ≡ all p xs → all p ys ≡ t
-  passed_like ys t e h = sym (h ∙ ap (all p) e)
-
   pub passing_end : (i : ℕ) → length xs ≤ i → Passing i → true ≡ all p xs
   passing_end i h at = sym (ap (all p) (drop_all i xs h)) ∙ at
-
--- ---- which is the first that fails, of what f makes of the list
-
-module _ {X Y : Type 0} (good : Y → Bool) (f : X → Y) (xs : List X) where
-  abbrev pub Searching : ℕ → Type 0
-  Searching i = first_bad good i (map f (drop i xs)) ≡ first_bad good 0 (map f xs)
-
-  searching_step : (i : ℕ) (x d : X) → i < length xs → x ≡ get_or xs i d → Searching i → cond (good (f x)) (first_bad good (i + 1) (map f (drop (i + 1) xs))) (Some i) ≡ first_bad good 0 (map f xs)
-  searching_step i x d h is at = ap (λ y. cond (good (f y)) (first_bad good (i + 1) (map f (drop (i + 1) xs))) (Some i)) is ∙ sym (ap (λ l. first_bad good i (map f l)) (drop_more xs i d h)) ∙ at
-
-  pub searching_more : (i : ℕ) (x d : X) → i < length xs → x ≡ get_or xs i d → good (f x) ≡ true → Searching i → Searching (i + 1)
-  searching_more i x d h is t at = ap (λ b. cond b (first_bad good (i + 1) (map f (drop (i + 1) xs))) (Some i)) (sym t) ∙ searching_step i x d h is at
-
-  pub searching_stop : (i : ℕ) (x d : X) → i < length xs → x ≡ get_or xs i d → good (f x) ≡ false → Searching i → Some i ≡ first_bad good 0 (map f xs)
-  searching_stop i x d h is t at = ap (λ b. cond b (first_bad good (i + 1) (map f (drop (i + 1) xs))) (Some i)) (sym t) ∙ searching_step i x d h is at
-
-  pub searching_end : (i : ℕ) → length xs ≤ i → Searching i → None ≡ first_bad good 0 (map f xs)
-  searching_end i h at = sym (ap (λ l. first_bad good i (map f l)) (drop_all i xs h)) ∙ at
 
 -- ---- what was found
 
@@ -52,15 +49,19 @@ module _ {X : Type 0} (good : X → Bool) where
   none_bad i [] e = refl
   none_bad i (x ∷ xs) e = go (good x) refl (none_bad (i + 1) xs) e
     where
-      go : (t : Bool) → good x ≡ t → (first_bad good (i + 1) xs ≡ None → all good xs ≡ true) → cond t (first_bad good (i + 1) xs) (Some i) ≡ None → (good x && all good xs) ≡ true
+      go : (t : Bool) → good x ≡ t → (first_bad good (i + 1) xs ≡ None → all good xs ≡ true) → cond (not t) (Some i) (first_bad good (i + 1) xs) ≡ None → (good x && all good xs) ≡ true
       go true f below e = and_from (good x) (all good xs) f (below e)
       go false f below e = let z : ◌≡◌ {A = ℕ} 0 1 = cc in absurd (omega arith)
+
+  -- one that passes is left behind
+  passes_on : (i : ℕ) (x : X) (xs : List X) → good x ≡ true → first_bad good i (x ∷ xs) ≡ first_bad good (i + 1) xs
+  passes_on i x xs e = cond-false (not (good x)) (Some i) (first_bad good (i + 1) xs) (ap not e)
 
   pub none_from : (i : ℕ) (xs : List X) → all good xs ≡ true → first_bad good i xs ≡ None
   none_from i [] e = refl
   none_from i (x ∷ xs) e =
       let p = and_parts (good x) (all good xs) e in
-      cond-true (good x) (first_bad good (i + 1) xs) (Some i) p.0 ∙ none_from (i + 1) xs p.1
+      passes_on i x xs p.0 ∙ none_from (i + 1) xs p.1
 
   -- the element at k is the first that fails
   pub record First (xs : List X) (k : ℕ) : Type 0 where
@@ -83,7 +84,7 @@ module _ {X : Type 0} (good : X → Bool) where
   first_from i n [] e = let z : ◌≡◌ {A = ℕ} 0 1 = cc in absurd (omega arith)
   first_from i n (x ∷ xs) e = go (good x) refl (first_from (i + 1) n xs) e
     where
-      go : (t : Bool) → good x ≡ t → (first_bad good (i + 1) xs ≡ Some n → (k : ℕ) × (n ≡ i + 1 + k) × First xs k) → cond t (first_bad good (i + 1) xs) (Some i) ≡ Some n
+      go : (t : Bool) → good x ≡ t → (first_bad good (i + 1) xs ≡ Some n → (k : ℕ) × (n ≡ i + 1 + k) × First xs k) → cond (not t) (Some i) (first_bad good (i + 1) xs) ≡ Some n
           → (k : ℕ) × (n ≡ i + k) × First (x ∷ xs) k
       go true f below e = let w = below e in (suc w.0, omega (arith, w.1), first_later x xs w.0 f w.2)
       go false f below e = let s : n ≡ i = cc in (0, omega arith, first_here x xs f)
@@ -97,10 +98,10 @@ module _ {X : Type 0} (good : X → Bool) where
       let e : ◌≡◌ {A = Option X} (Some x) (Some at.item) = at.stands in
       let s : x ≡ at.item = cc in
       let n : i ≡ i + 0 = omega arith in
-      cond-false (good x) (first_bad good (i + 1) xs) (Some i) (ap good s ∙ at.fails) ∙ ap Some n
+      cond-true (not (good x)) (Some i) (first_bad good (i + 1) xs) (ap not (ap good s ∙ at.fails)) ∙ ap Some n
   found_from i (x ∷ xs) (suc k) at =
       let n : i + 1 + k ≡ i + suc k = omega arith in
-      cond-true (good x) (first_bad good (i + 1) xs) (Some i) (at.before 0 x (omega arith) refl)
+      passes_on i x xs (at.before 0 x (omega arith) refl)
       ∙ found_from (i + 1) xs k (record { item = at.item; stands = at.stands; fails = at.fails; before = λ j y h e. at.before (suc j) y (omega arith) e }) ∙ ap Some n
 
   pub first_found : (xs : List X) (n : ℕ) → First xs n → first_bad good 0 xs ≡ Some n

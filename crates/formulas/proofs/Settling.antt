@@ -1,36 +1,29 @@
 -- The rounds of a solve, step by step.
-use Rattle.std.proofs.Common.{◌≡◌, ℕ, suc, ◌+◌, ◌-◌, ◌<◌, ◌≤◌, Bool, true, false, cond, List, [], ◌∷◌, length, drop, Some, None, Ok, Err, Decides, Result, sym, refl, ap, ◌∙◌, ap₂, arith}
-use mathlib.Core.Bool.{false≢true}
-use Rattle.std.specs.List.{slice_get}
+use Rattle.std.proofs.Common.{◌≡◌, ℕ, suc, ◌+◌, ◌-◌, ◌<◌, true, false, cond, List, Ok, Err, Decides, Result, sym, ap, ◌∙◌, arith}
+use Rattle.std.specs.Cmp.Derive.Mapped.{pointwise-map}
+use Rattle.std.specs.Cmp.Lexicographic.{pointwise, pointwise_decides}
+use Rattle.std.specs.Ordering.{on}
 use Rattle.std.specs.Str.{bytes_eq}
 use Rattle.std.proofs.lemmas.Slice.Eq.{bytes_eq-Decides}
-use Rattle.std.proofs.lemmas.List.{drop_all}
-use Rattle.std.proofs.lemmas.Bool.{and_parts, and_from, cond-true, cond-false}
-use Rattle.foundation.specs.Laws.Bits.{same_tests}
+use Rattle.std.proofs.lemmas.Bool.{cond-true, cond-false}
 use Rattle.rules.specs.Tables.{Table}
 use Rattle.formulas.specs.declared.fault.SolveFault.{SolveFault}
 use Rattle.formulas.specs.declared.fault.SolveFault.TheVariants.{TooManyClauses, Unsettled}
-use Rattle.formulas.specs.RoundViews.{round_answer}
+use Rattle.formulas.specs.declared.round.Round.{Round}
+use Rattle.formulas.specs.FormulaViews.{formula_list}
+use Rattle.formulas.specs.RoundViews.{formulas_of, round_answer}
 use Rattle.formulas.specs.Rounds.{next_round}
-use Rattle.formulas.specs.Searches.{first_bad}
 use Rattle.formulas.specs.Solving.{same_rounds, settle_on, settle}
 use Rattle.formulas.specs.Symbols.{Entry}
-use Rattle.formulas.proofs.CombiningOn.{drop_nth}
 
 -- ---- equal rounds
 
 pub same_decides : (L M : List (List ℕ)) → Decides (same_rounds L M) (L ≡ M)
-same_decides [] [] = (λ e. refl, λ e. refl)
-same_decides [] (G ∷ M) = (λ e. absurd (false≢true e), λ e. let z : ◌≡◌ {A = ℕ} 0 1 = cc in absurd (omega arith))
-same_decides (F ∷ L) [] = (λ e. absurd (false≢true e), λ e. let z : ◌≡◌ {A = ℕ} 0 1 = cc in absurd (omega arith))
-same_decides (F ∷ L) (G ∷ M) =
-    let d = same_decides L M in (
-      λ e. let p = and_parts (bytes_eq F G) (same_rounds L M) e in ap₂ ◌∷◌ ((bytes_eq-Decides F G).0 p.0) (d.0 p.1),
-      λ e. let x : F ≡ G = cc in let y : L ≡ M = cc in and_from (bytes_eq F G) (same_rounds L M) ((bytes_eq-Decides F G).1 x) (d.1 y),
-    )
+same_decides = pointwise_decides {E = bytes_eq} bytes_eq-Decides
 
-pub told_rounds : (L M : List (List ℕ)) (r : Bool) → Decides r (L ≡ M) → same_rounds L M ≡ r
-told_rounds L M r d = same_tests (same_rounds L M) r (λ e. d.1 ((same_decides L M).0 e)) (λ e. (same_decides L M).1 (d.0 e))
+-- the test of two rounds that the code makes
+pub tested_rounds : (a b : Round) → pointwise (on formula_list bytes_eq) a.formulas b.formulas ≡ same_rounds (formulas_of a) (formulas_of b)
+tested_rounds a b = sym (pointwise-map formula_list bytes_eq a.formulas b.formulas)
 
 -- ---- the answer for one round
 
@@ -53,27 +46,11 @@ module _ (rs : List Entry) (t : Table) (a d : ℕ) (L : List (List ℕ)) (h : d 
     then_next : settle rs t (a - d) d L ≡ cond (same_rounds M L) (Ok (record { number = d + 1; formulas = M })) (settle rs t (a - (d + 1)) (d + 1) M)
     then_next = one_more ∙ ap (λ x. settle_on x L d (settle rs t (a - (d + 1)) (d + 1))) (answered_ok (next_round 64 rs t L) M e)
 
-    pub settle_here : Decides true (M ≡ L) → settle rs t (a - d) d L ≡ Ok (record { number = d + 1; formulas = M })
-    settle_here s = then_next ∙ cond-true (same_rounds M L) _ _ (told_rounds M L true s)
+    pub settle_here : true ≡ same_rounds M L → settle rs t (a - d) d L ≡ Ok (record { number = d + 1; formulas = M })
+    settle_here s = then_next ∙ cond-true (same_rounds M L) _ _ (sym s)
 
-    pub settle_more : Decides false (M ≡ L) → settle rs t (a - d) d L ≡ settle rs t (a - (d + 1)) (d + 1) M
-    settle_more s = then_next ∙ cond-false (same_rounds M L) _ _ (told_rounds M L false s)
+    pub settle_more : false ≡ same_rounds M L → settle rs t (a - d) d L ≡ settle rs t (a - (d + 1)) (d + 1) M
+    settle_more s = then_next ∙ cond-false (same_rounds M L) _ _ (sym s)
 
 pub settle_none : (rs : List Entry) (t : Table) (a d : ℕ) (L : List (List ℕ)) → d ≡ a → settle rs t (a - d) d L ≡ Err (Unsettled a)
 settle_none rs t a d L h = let n : a - d ≡ 0 = omega arith in ap (λ n. settle rs t n d L) n ∙ ap (λ k. Err (Unsettled k)) h
-
--- ---- the search for a record, by number
-
-module _ {X : Type 0} (good : X → Bool) (xs : List X) where
-  abbrev pub Looking : ℕ → Type 0
-  Looking i = first_bad good i (drop i xs) ≡ first_bad good 0 xs
-
-  module _ (i : ℕ) (x : X) (at : Some x ≡ slice_get xs i) (l : Looking i) where
-    pub looking_more : good x ≡ true → Looking (i + 1)
-    looking_more g = sym (ap (first_bad good i) (drop_nth xs i x at) ∙ cond-true (good x) (first_bad good (i + 1) (drop (i + 1) xs)) (Some i) g) ∙ l
-
-    pub looking_found : good x ≡ false → Some i ≡ first_bad good 0 xs
-    looking_found g = sym (ap (first_bad good i) (drop_nth xs i x at) ∙ cond-false (good x) (first_bad good (i + 1) (drop (i + 1) xs)) (Some i) g) ∙ l
-
-  pub looking_end : (i : ℕ) → length xs ≤ i → Looking i → None ≡ first_bad good 0 xs
-  looking_end i h l = sym (ap (first_bad good i) (drop_all i xs h)) ∙ l

@@ -1,6 +1,7 @@
 -- Solving: rounds until one is equal to the one before it.
-use Rattle.std.specs.Prelude.{◌≡◌, ℕ, zero, suc, ◌+◌, ◌<◌, ◌≤◌, Bool, true, false, cond, ◌&&◌, List, [], ◌∷◌, Some, None, Ok, Err, Option, Result, ◌≢◌, nat_le, nat_lt}
+use Rattle.std.specs.Prelude.{◌≡◌, ℕ, zero, suc, ◌+◌, ◌<◌, ◌≤◌, Bool, true, cond, ◌&&◌, List, Some, None, Ok, Err, Option, Result, ◌≢◌, nat_le, nat_lt}
 use mathlib.Core.List.{Memᴰ}
+use Rattle.std.specs.Cmp.Lexicographic.{pointwise}
 use Rattle.std.specs.List.{slice_get}
 use Rattle.std.specs.Str.{bytes_eq}
 use Rattle.foundation.specs.Tests.{all}
@@ -22,10 +23,7 @@ pub record Settled : Type 0 where
   pub formulas : List (List ℕ)
 
 abbrev pub same_rounds : List (List ℕ) → List (List ℕ) → Bool
-same_rounds [] [] = true
-same_rounds [] (G ∷ M) = false
-same_rounds (F ∷ L) [] = false
-same_rounds (F ∷ L) (G ∷ M) = bytes_eq F G && same_rounds L M
+same_rounds = pointwise bytes_eq
 
 -- the round after round k, which is L: the answer if the two are equal, else on to the next one
 abbrev pub settle_on : Result (List (List ℕ)) ℕ → List (List ℕ) → ℕ → (List (List ℕ) → Result Settled SolveFault) → Result Settled SolveFault

@@ -1,12 +1,11 @@
 //! Records: one body of a procedure, and the side that the procedure belongs to.
-ghost use Rattle.std.specs.Prelude.{◌≡◌, ◌<◌, true, ⊤};
+ghost use Rattle.std.specs.Prelude.{◌≡◌, ◌<◌, true};
 ghost use Rattle.foundation.specs.Bounds.{items};
 ghost use Rattle.foundation.specs.Tests.{all};
 ghost use Rattle.formulas.specs.Symbols.{proper};
 
 use crate::symbol::{Owner, Procedure, Symbol};
 use foundation::bounded::Bounded;
-use std::alloc::AllocError;
 
 mod reading;
 
@@ -14,6 +13,7 @@ mod reading;
 pub(crate) const RECORD_LEN: usize = 12;
 
 /// One body of a procedure, with the procedure's owner.
+#[derive(Clone, Copy)]
 pub struct Record {
     procedure: Procedure,
     owner: Owner,
@@ -21,15 +21,3 @@ pub struct Record {
     ghost known: { procedure < 32 },
     ghost sound: { all proper (items body) ≡ true },
 }
-
-impl Clone for Record {
-    ghost is_clone = { λ x y. y ≡ x };
-
-    ghost is_infallible = { λ _. ⊤ };
-
-    fn clone(&self) -> Result<Record, AllocError> {
-        Ok(*self)
-    }
-}
-
-impl Copy for Record {}

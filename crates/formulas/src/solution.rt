@@ -90,7 +90,7 @@ fn settle_within(
     let mut round = Round::first();
     for done in 0..allowance {
         let next = round.next(set, table)?;
-        if next.equals(&round) {
+        if next == round {
             return Ok(Solution {
                 round: next,
                 number: done + 1,
@@ -105,26 +105,15 @@ fn settle_within(
 fn first_lacking(set: &ProcedureSet, commands: u8) -> Option<usize>
     ensures { result ≡ first_bad (known_body commands) 0 (entries set.now) }
 {
-    for i in 0..set.len() {
-        let Some(record) = set.get(i) else {
-            unreachable()
-        };
-        if !all_known(record.body(), commands) {
-            return Some(i);
-        }
-    }
-    None
+    set.records()
+        .iter()
+        .position(|record| !all_known(record.body(), commands))
 }
 
 fn all_known(body: &[Symbol], commands: u8) -> bool
     ensures { result ≡ all (known commands) body.now }
 {
-    for symbol in body {
-        if !is_known(*symbol, commands) {
-            return false;
-        }
-    }
-    true
+    body.iter().all(|symbol| is_known(*symbol, commands))
 }
 
 fn is_known(symbol: Symbol, commands: u8) -> bool

@@ -1,5 +1,6 @@
 //! What bodies and forms are made of.
 ghost use Rattle.std.specs.Prelude.{◌≡◌};
+ghost use Rattle.std.specs.Result.{result_ok};
 ghost use Rattle.formulas.specs.RecordForms.{symbol_in, owner_in};
 
 use rules::rule::Command;
@@ -16,15 +17,21 @@ pub enum Symbol {
     Procedure(Procedure),
 }
 
-impl Symbol {
-    /// The symbol that a byte of a body stands for.
-    pub fn from_byte(byte: u8) -> Option<Symbol>
-        ensures { result ≡ symbol_in byte }
-    {
+/// A byte that stands for no symbol.
+#[derive(Clone, Copy, Debug, PartialEq, Eq)]
+pub struct UnknownSymbol;
+
+/// The symbol that a byte of a body or a form stands for.
+impl TryFrom<u8> for Symbol {
+    type Error = UnknownSymbol;
+
+    ghost try_from_gives = { λ byte result. result_ok result ≡ symbol_in byte };
+
+    fn try_from(byte: u8) -> Result<Symbol, UnknownSymbol> {
         match byte {
-            0..=15 => Some(Symbol::Command(byte)),
-            32..=63 => Some(Symbol::Procedure(byte - 32)),
-            _ => None,
+            0..=15 => Ok(Symbol::Command(byte)),
+            32..=63 => Ok(Symbol::Procedure(byte - 32)),
+            _ => Err(UnknownSymbol),
         }
     }
 }
@@ -36,14 +43,20 @@ pub enum Owner {
     Field,
 }
 
-impl Owner {
-    pub(crate) fn from_byte(byte: u8) -> Option<Owner>
-        ensures { result ≡ owner_in byte }
-    {
+/// A byte that stands for no owner.
+#[derive(Clone, Copy, Debug, PartialEq, Eq)]
+pub struct UnknownOwner;
+
+impl TryFrom<u8> for Owner {
+    type Error = UnknownOwner;
+
+    ghost try_from_gives = { λ byte result. result_ok result ≡ owner_in byte };
+
+    fn try_from(byte: u8) -> Result<Owner, UnknownOwner> {
         match byte {
-            0 => Some(Owner::Station),
-            1 => Some(Owner::Field),
-            _ => None,
+            0 => Ok(Owner::Station),
+            1 => Ok(Owner::Field),
+            _ => Err(UnknownOwner),
         }
     }
 }

@@ -60,7 +60,7 @@ fn read_form(words: &mut Words<'_>) -> Result<Vec<Symbol>, Fault> {
     words
         .bytes()?
         .iter()
-        .map(|byte| Symbol::from_byte(*byte).ok_or(Fault::Malformed))
+        .map(|byte| Symbol::try_from(*byte).map_err(|_| Fault::Malformed))
         .try_collect(words.heap())
 }
 

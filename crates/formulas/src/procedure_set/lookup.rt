@@ -18,6 +18,13 @@ impl ProcedureSet {
         self.records.len()
     }
 
+    /// The records, in order.
+    pub fn records(&self) -> &[Record]
+        ensures { map entry_of result.now ≡ entries self.now }
+    {
+        self.records.as_slice()
+    }
+
     /// The record with the number `i`.
     pub fn get(&self, i: usize) -> Option<Record>
         ensures { option_map entry_of result ≡ slice_get (entries self.now) i }
@@ -29,7 +36,7 @@ impl ProcedureSet {
     pub fn owner(&self, p: Procedure) -> Option<Owner>
         ensures { result ≡ owner_of (entries self.now) p }
     {
-        first_owner(self.records.as_slice(), p)
+        first_owner(self.records(), p)
     }
 }
 
@@ -37,10 +44,8 @@ impl ProcedureSet {
 pub(super) fn first_owner(records: &[Record], p: Procedure) -> Option<Owner>
     ensures { result ≡ owner_of (map entry_of records.now) p }
 {
-    for record in records {
-        if record.procedure() == p {
-            return Some(record.owner());
-        }
-    }
-    None
+    records
+        .iter()
+        .find(|record| record.procedure() == p)
+        .map(|record| record.owner())
 }

@@ -45,12 +45,8 @@ fn read_records(bytes: &[u8]) -> Result<Bounded<Record, 128>, RecordsFault>
         return Err(RecordsFault::Length(whole));
     }
     let mut records = Bounded::<Record, 128>::empty(Record::blank());
-    for i in 0..whole {
-        let at = RECORD_LEN * i;
-        let Some(record) = Record::read(&bytes[at..at + RECORD_LEN]) else {
-            return Err(RecordsFault::Form(i));
-        };
-        records.push(record);
+    for (i, piece) in bytes.chunks_exact(RECORD_LEN).enumerate() {
+        records.push(Record::read(piece).ok_or(RecordsFault::Form(i))?);
     }
     Ok(records)
 }
@@ -59,12 +55,7 @@ fn read_records(bytes: &[u8]) -> Result<Bounded<Record, 128>, RecordsFault>
 fn first_stray(records: &[Record]) -> Option<usize>
     ensures { result ≡ first_bad (agreed (map entry_of records.now)) 0 (map entry_of records.now) }
 {
-    for (i, record) in records.iter().enumerate() {
-        if !agrees(records, record) {
-            return Some(i);
-        }
-    }
-    None
+    records.iter().position(|record| !agrees(records, record))
 }
 
 fn agrees(records: &[Record], record: &Record) -> bool
@@ -78,23 +69,15 @@ fn agrees(records: &[Record], record: &Record) -> bool
 fn first_unrecorded(records: &[Record]) -> Option<usize>
     ensures { result ≡ first_bad (bodied (map entry_of records.now)) 0 (map entry_of records.now) }
 {
-    for (i, record) in records.iter().enumerate() {
-        if !all_recorded(records, record.body()) {
-            return Some(i);
-        }
-    }
-    None
+    records
+        .iter()
+        .position(|record| !all_recorded(records, record.body()))
 }
 
 fn all_recorded(records: &[Record], body: &[Symbol]) -> bool
     ensures { result ≡ all (recorded (map entry_of records.now)) body.now }
 {
-    for symbol in body {
-        if !is_recorded(records, *symbol) {
-            return false;
-        }
-    }
-    true
+    body.iter().all(|symbol| is_recorded(records, *symbol))
 }
 
 fn is_recorded(records: &[Record], symbol: Symbol) -> bool

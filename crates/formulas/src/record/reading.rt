@@ -10,9 +10,6 @@ use crate::record::{RECORD_LEN, Record};
 use crate::symbol::{Owner, PROCEDURES, Procedure, Symbol};
 use foundation::bounded::Bounded;
 
-/// Where a body begins.
-const BODY: usize = 3;
-
 /// How many symbols a body has at most.
 const LONGEST: u8 = 9;
 
@@ -27,20 +24,20 @@ impl Record {
         if bytes.len() != RECORD_LEN {
             return None;
         }
-        let (procedure, len) = (bytes[0], bytes[2]);
-        if procedure >= PROCEDURES || len > LONGEST {
+        let [procedure, owner, len, rest @ ..] = bytes else {
+            return None;
+        };
+        if *procedure >= PROCEDURES || *len > LONGEST {
             return None;
         }
-        let end = BODY + usize::from(len);
-        if !is_filled(&bytes[end..]) {
+        let (body, fill) = rest.split_at(usize::from(*len));
+        if !is_filled(fill) {
             return None;
         }
-        let owner = Owner::from_byte(bytes[1])?;
-        let body = read_body(&bytes[BODY..end])?;
         Some(Record {
-            procedure,
-            owner,
-            body,
+            procedure: *procedure,
+            owner: Owner::try_from(*owner).ok()?,
+            body: read_body(body)?,
         })
     }
 
@@ -75,12 +72,7 @@ impl Record {
 fn is_filled(bytes: &[u8]) -> bool
     ensures { result ≡ all (λ b. nat_eq b 255) bytes.now }
 {
-    for byte in bytes {
-        if *byte != FILL {
-            return false;
-        }
-    }
-    true
+    bytes.iter().all(|byte| *byte == FILL)
 }
 
 /// A symbol for each byte, or `None` where a byte is none.
@@ -90,7 +82,7 @@ fn read_body(bytes: &[u8]) -> Option<Bounded<Symbol, 9>>
 {
     let mut body = Bounded::<Symbol, 9>::empty(Symbol::Command(0));
     for byte in bytes {
-        body.push(Symbol::from_byte(*byte)?);
+        body.push(Symbol::try_from(*byte).ok()?);
     }
     Some(body)
 }

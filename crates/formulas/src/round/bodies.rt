@@ -7,8 +7,8 @@ ghost use Rattle.formulas.specs.Rounds.{first_round, formula_at, in_front, body_
 
 use crate::fault::Overflow;
 use crate::formula::Formula;
-use crate::round::{PROCEDURES, Round};
-use crate::symbol::{Procedure, Symbol};
+use crate::round::Round;
+use crate::symbol::{PROCEDURES, Procedure, Symbol};
 use rules::table::EffectTable;
 
 impl Round {
@@ -17,7 +17,7 @@ impl Round {
         ensures { formulas_of result ≡ first_round }
     {
         Round {
-            formulas: [Formula::impossible(); 32],
+            formulas: [Formula::impossible(); PROCEDURES as usize],
         }
     }
 
@@ -25,12 +25,10 @@ impl Round {
     pub(crate) fn formula(&self, p: Procedure) -> Formula
         ensures { formula_list result ≡ formula_at (formulas_of self.now) p }
     {
-        let at = usize::from(p);
-        if at < PROCEDURES {
-            self.formulas[at]
-        } else {
-            Formula::impossible()
-        }
+        self.formulas
+            .get(usize::from(p))
+            .copied()
+            .unwrap_or(Formula::impossible())
     }
 
     /// The formula of a symbol and what comes after it.
@@ -60,10 +58,8 @@ impl Round {
         ensures { found result ≡ body_formula 64 (view table.now) (formulas_of self.now) body.now }
     {
         let mut formula = Formula::neutral();
-        let mut i = body.len();
-        while i > 0 {
-            i -= 1;
-            formula = self.in_front(table, body[i], &formula)?;
+        for symbol in body.iter().rev() {
+            formula = self.in_front(table, *symbol, &formula)?;
         }
         Ok(formula)
     }

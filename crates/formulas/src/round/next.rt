@@ -10,8 +10,8 @@ ghost use Rattle.formulas.specs.Rounds.{mixed_with, next_formula, next_round};
 use crate::fault::{Overflow, SolveFault};
 use crate::formula::Formula;
 use crate::procedure_set::ProcedureSet;
-use crate::round::{PROCEDURES, Round};
-use crate::symbol::{Owner, Procedure};
+use crate::round::Round;
+use crate::symbol::{Owner, PROCEDURES, Procedure};
 use rules::table::EffectTable;
 
 impl Round {
@@ -28,31 +28,26 @@ impl Round {
             return Ok(Formula::impossible());
         };
         let mut so_far = None;
-        for i in 0..set.len() {
-            let Some(record) = set.get(i) else {
-                unreachable()
-            };
+        for record in set.records() {
             if record.procedure() == p {
                 let formula = self.body_formula(table, record.body())?;
                 so_far = Some(combine(so_far, owner, formula)?);
             }
         }
-        match so_far {
-            Some(formula) => Ok(formula),
-            None => Ok(Formula::impossible()),
-        }
+        Ok(so_far.unwrap_or(Formula::impossible()))
     }
 
     /// The next round, or the first procedure whose formula would have a clause too many.
     pub(crate) fn next(&self, set: &ProcedureSet, table: &EffectTable) -> Result<Round, SolveFault>
         ensures { round_viewed result ≡ round_answer (next_round 64 (entries set.now) (view table.now) (formulas_of self.now)) }
     {
-        let mut formulas = [Formula::impossible(); 32];
-        for p in 0..PROCEDURES {
-            let Ok(formula) = self.next_formula(set, table, p as Procedure) else {
-                return Err(SolveFault::TooManyClauses(p as Procedure));
+        let mut formulas = [Formula::impossible(); PROCEDURES as usize];
+        for (p, formula) in formulas.iter_mut().enumerate() {
+            let p = p as Procedure;
+            let Ok(next) = self.next_formula(set, table, p) else {
+                return Err(SolveFault::TooManyClauses(p));
             };
-            formulas[p] = formula;
+            *formula = next;
         }
         Ok(Round { formulas })
     }
@@ -62,11 +57,9 @@ impl Round {
 fn combine(so_far: Option<Formula>, owner: Owner, formula: Formula) -> Result<Formula, Overflow>
     ensures { found result ≡ mixed_with 64 owner (option_map formula_list so_far) (formula_list formula) }
 {
-    match so_far {
-        None => Ok(formula),
-        Some(before) => match owner {
-            Owner::Station => before.both(&formula),
-            Owner::Field => before.either(&formula),
-        },
+    match (so_far, owner) {
+        (None, _) => Ok(formula),
+        (Some(before), Owner::Station) => before.both(&formula),
+        (Some(before), Owner::Field) => before.either(&formula),
     }
 }

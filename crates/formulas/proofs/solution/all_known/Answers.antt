@@ -1,15 +1,12 @@
-use Rattle.std.proofs.Common.{sym, refl}
 use Rattle.formulas.specs.Solving.{known}
-use Rattle.formulas.proofs.Searches.{passing_more, passing_stop, passing_end}
+use Rattle.std.proofs.Common.{rules}
+use Rattle.std.proofs.lemmas.Iterator.{YieldsList-from_slice}
+use Rattle.std.proofs.lemmas.Iterator.Search.{all_from_yields_List}
+use borrow.Author.Tests.{tests}
+use Rattle.formulas.proofs.Searches.{all_from}
 use Rattle.formulas.proofs.solution.all_known.Goals as goal
 
-pub loop-symbol-preserved : goal.loop-symbol-preserved
-loop-symbol-preserved c =
-    passing_more (known c.args.commands) c.args.body.now c.loop-symbol.symbol-index _ _ c.loop-symbol-test.true refl (sym c.if-not-is_known.ensures) c.loop-symbol.invariant
-
-pub returns-then-not-is_known : goal.returns-then-not-is_known
-returns-then-not-is_known c =
-    passing_stop (known c.args.commands) c.args.body.now c.loop-symbol.symbol-index _ _ c.loop-symbol-test.true refl (sym c.if-not-is_known.ensures) c.loop-symbol.invariant
-
 pub returns : goal.returns
-returns c = passing_end (known c.args.commands) c.args.body.now c.loop-symbol.symbol-index c.loop-symbol-test.false c.loop-symbol.invariant
+returns c =
+    let good = known c.args.commands in
+    all_from good c.args.body.now c.all.result (all_from_yields_List good _ _ c.all.result c.all.ensures.ran (YieldsList-from_slice c.args.body.now cc) (λ x b q k. search (rules, tests)))

@@ -1,24 +1,16 @@
-use Rattle.std.proofs.Common.{sym, ap, ◌∙◌, arith}
-use Rattle.foundation.specs.Tests.{all}
+use Rattle.std.proofs.Common.{not, rules, ap, ◌∙◌}
+use Rattle.std.proofs.lemmas.Iterator.{YieldsList-from_slice}
+use Rattle.std.proofs.lemmas.Iterator.Search.{position_from_yields_List}
+use borrow.Author.Tests.{tests}
 use Rattle.formulas.specs.Entries.{entry_of}
-use Rattle.formulas.specs.Records.{entries}
-use Rattle.formulas.specs.Solving.{known, known_body}
-use Rattle.formulas.proofs.CombiningOn.{nth_there}
-use Rattle.formulas.proofs.Settling.{looking_more, looking_found, looking_end}
+use Rattle.formulas.specs.Searches.{first_bad}
+use Rattle.formulas.specs.Solving.{known_body}
+use Rattle.formulas.proofs.Searches.{first_bad_from}
 use Rattle.formulas.proofs.solution.first_lacking.Goals as goal
 
-pub unreachable-requires : goal.unreachable-requires
-unreachable-requires c = nth_there (entries c.args.set.now) c.loop-i.i (omega (arith, c.loop-i-test.true, c.len-i-end.ensures)) c.in_default.ensures
-
-pub loop-i-preserved : goal.loop-i-preserved
-loop-i-preserved c =
-    looking_more (known_body c.args.commands) (entries c.args.set.now) c.loop-i.i (entry_of c.in-Some.record) c.in-Some.ensures c.loop-i.invariant
-    (sym (c.if-not-all_known.ensures ∙ ap (all (known c.args.commands)) c.body.ensures))
-
-pub returns-then-not-all_known : goal.returns-then-not-all_known
-returns-then-not-all_known c =
-    looking_found (known_body c.args.commands) (entries c.args.set.now) c.loop-i.i (entry_of c.in-Some.record) c.in-Some.ensures c.loop-i.invariant
-    (sym (c.if-not-all_known.ensures ∙ ap (all (known c.args.commands)) c.body.ensures))
-
 pub returns : goal.returns
-returns c = looking_end (known_body c.args.commands) (entries c.args.set.now) c.loop-i.i (omega (arith, c.loop-i-test.false, c.len-i-end.ensures)) c.loop-i.invariant
+returns c =
+    let good = known_body c.args.commands in
+    first_bad_from good entry_of c.records.result.now c.position.result
+    (position_from_yields_List (λ r. not (good (entry_of r))) _ _ c.position.result c.position.ensures.ran (YieldsList-from_slice c.records.result.now cc) (λ x b q k. search (rules, tests)))
+    ∙ ap (first_bad good 0) c.records.ensures

@@ -5,7 +5,7 @@ use Rattle.formulas.specs.Records.{entries}
 use Rattle.formulas.specs.RoundViews.{formulas_of}
 use Rattle.formulas.specs.Solutions.{solution_viewed}
 use Rattle.formulas.specs.Solving.{settle}
-use Rattle.formulas.proofs.Settling.{settle_off, settle_here, settle_more, settle_none}
+use Rattle.formulas.proofs.Settling.{tested_rounds, settle_off, settle_here, settle_more, settle_none}
 use Rattle.formulas.proofs.solution.settle_within.Goals as goal
 
 pub loop-done-init : goal.loop-done-init
@@ -20,15 +20,15 @@ returns-in_err-next c =
     ∙ sym (sym c.loop-done.invariant ∙ settle_off (entries c.args.set.now) (view c.args.table.now) c.args.allowance c.loop-done.done (formulas_of c.loop-done.round) c.loop-done-test.true
     c.in_err-next.field-0.0 c.in_err-next.ensures)
 
-pub returns-then-equals : goal.returns-then-equals
-returns-then-equals c =
+pub returns-then-eq : goal.returns-then-eq
+returns-then-eq c =
     sym (sym c.loop-done.invariant ∙ settle_here (entries c.args.set.now) (view c.args.table.now) c.args.allowance c.loop-done.done (formulas_of c.loop-done.round) c.loop-done-test.true
-    (formulas_of c.in_ok-next.next) c.in_ok-next.ensures c.if-equals.ensures)
+    (formulas_of c.in_ok-next.next) c.in_ok-next.ensures (c.if-eq.ensures ∙ tested_rounds c.in_ok-next.next c.loop-done.round))
 
 pub loop-done-preserved : goal.loop-done-preserved
 loop-done-preserved c =
     sym (settle_more (entries c.args.set.now) (view c.args.table.now) c.args.allowance c.loop-done.done (formulas_of c.loop-done.round) c.loop-done-test.true
-    (formulas_of c.in_ok-next.next) c.in_ok-next.ensures c.if-equals.ensures) ∙ c.loop-done.invariant
+    (formulas_of c.in_ok-next.next) c.in_ok-next.ensures (c.if-eq.ensures ∙ tested_rounds c.in_ok-next.next c.loop-done.round)) ∙ c.loop-done.invariant
 
 pub returns : goal.returns
 returns c =

@@ -1,18 +1,16 @@
-use Rattle.std.proofs.Common.{Some, sym, ap, ◌∙◌}
+use Rattle.std.proofs.Common.{◌≡◌, rules, ◌==◌, ◌∙◌}
+use Rattle.std.specs.Option.{option_map}
+use Rattle.std.proofs.lemmas.Iterator.{YieldsList-from_slice}
+use Rattle.std.proofs.lemmas.Iterator.Search.{find_from_yields_List}
+use borrow.Author.Tests.{tests}
 use Rattle.formulas.specs.Entries.{entry_of}
-use Rattle.formulas.proofs.FirstOwners.{owning_more, owning_found, owning_end}
+use Rattle.formulas.proofs.FirstOwners.{owner_found}
 use Rattle.formulas.proofs.procedure_set.lookup.first_owner.Goals as goal
 
-pub loop-record-preserved : goal.loop-record-preserved
-loop-record-preserved c =
-    owning_more entry_of c.args.records.now c.args.p c.loop-record.record-index c.record-item.result c.loop-record-test.true c.record-item.is
-    (λ e. c.if-procedure-p.false (c.procedure.ensures ∙ e)) c.loop-record.invariant
-
-pub returns-then-procedure-p : goal.returns-then-procedure-p
-returns-then-procedure-p c =
-    ap Some c.owner.ensures
-    ∙ owning_found entry_of c.args.records.now c.args.p c.loop-record.record-index c.record-item.result c.loop-record-test.true c.record-item.is
-    (sym c.procedure.ensures ∙ c.if-procedure-p.true) c.loop-record.invariant
-
 pub returns : goal.returns
-returns c = owning_end entry_of c.args.records.now c.args.p c.loop-record.record-index c.loop-record-test.false c.loop-record.invariant
+returns c =
+    let rs = c.args.records.now in
+    let owned : c.map.result ≡ option_map (λ r. r.now.owner) c.find.result = search rules in
+    owned
+    ∙ owner_found entry_of c.args.p rs c.find.result
+    (find_from_yields_List (λ r. r.procedure == c.args.p) _ _ c.find.result c.find.ensures.ran (YieldsList-from_slice rs cc) (λ x b q k. search (rules, tests)))

@@ -1,15 +1,12 @@
-use Rattle.std.proofs.Common.{eqb, get_or, refl}
-use Rattle.std.proofs.lemmas.Bool.{eq-eqb, ne_eqb}
-use Rattle.formulas.proofs.Searches.{passing_more, passing_stop, passing_end}
+use Rattle.std.proofs.Common.{ℕ, nat_eq}
+use Rattle.std.proofs.Common.{rules}
+use Rattle.std.proofs.lemmas.Iterator.{YieldsList-from_slice}
+use Rattle.std.proofs.lemmas.Iterator.Search.{all_from_yields_List}
+use borrow.Author.Tests.{tests}
+use Rattle.formulas.proofs.Searches.{all_from}
 use Rattle.formulas.proofs.record.reading.is_filled.Goals as goal
 
-pub loop-byte-preserved : goal.loop-byte-preserved
-loop-byte-preserved c =
-    passing_more (λ b. eqb b 255) c.args.bytes.now c.loop-byte.byte-index (get_or c.args.bytes.now c.loop-byte.byte-index 0) 0 c.loop-byte-test.true refl (eq-eqb _ 255 c.if-byte.false) c.loop-byte.invariant
-
-pub returns-then-byte : goal.returns-then-byte
-returns-then-byte c =
-    passing_stop (λ b. eqb b 255) c.args.bytes.now c.loop-byte.byte-index (get_or c.args.bytes.now c.loop-byte.byte-index 0) 0 c.loop-byte-test.true refl (ne_eqb _ 255 c.if-byte.true) c.loop-byte.invariant
-
 pub returns : goal.returns
-returns c = passing_end (λ b. eqb b 255) c.args.bytes.now c.loop-byte.byte-index c.loop-byte-test.false c.loop-byte.invariant
+returns c =
+    let good = λ (b : ℕ). nat_eq b 255 in
+    all_from good c.args.bytes.now c.all.result (all_from_yields_List good _ _ c.all.result c.all.ensures.ran (YieldsList-from_slice c.args.bytes.now cc) (λ x b q k. search (rules, tests)))

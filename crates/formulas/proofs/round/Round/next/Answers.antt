@@ -10,18 +10,15 @@ loop-p-init c = (refl, gathering_none (view c.args.table.now) (entries c.args.se
 
 pub returns-in_default : goal.returns-in_default
 returns-in_default c =
-    sym (ap round_answer (gathering_off (view c.args.table.now) (entries c.args.set.now) (formulas_of c.args.self.now) c.loop-p.formulas c.loop-p.p (omega (arith, procedures_are, c.loop-p-test.true)) c.loop-p.invariant.1 (sym c.in_default.ensures)))
+    sym (ap round_answer (gathering_off (view c.args.table.now) (entries c.args.set.now) (formulas_of c.args.self.now) c.loop-p.formula-items c.loop-p.p (omega (arith, procedures_are, c.loop-p-test.true)) c.loop-p.invariant.1 (sym c.in_default.ensures)))
 
 pub loop-p-preserved : goal.loop-p-preserved
 loop-p-preserved c = (
-  length-set c.loop-p.formulas c.loop-p.p c.in-Ok.formula ∙ c.loop-p.invariant.0,
-  gathering_more (view c.args.table.now) (entries c.args.set.now) (formulas_of c.args.self.now) c.loop-p.formulas c.loop-p.p (omega (arith, procedures_are, c.loop-p-test.true)) c.loop-p.invariant.1
-      c.in-Ok.formula (omega (arith, c.loop-p.invariant.0, c.loop-p-test.true)) (sym c.in-Ok.ensures),
+  length-set c.loop-p.formula-items c.loop-p.p c.in-Ok.next ∙ c.loop-p.invariant.0,
+  gathering_more (view c.args.table.now) (entries c.args.set.now) (formulas_of c.args.self.now) c.loop-p.formula-items c.loop-p.p (omega (arith, procedures_are, c.loop-p-test.true)) c.loop-p.invariant.1
+      c.in-Ok.next (omega (arith, c.loop-p.invariant.0, c.loop-p-test.true)) (sym c.in-Ok.ensures),
 )
-
-pub invariant_of-result : goal.invariant_of-result
-invariant_of-result c = record { whole = c.loop-p.invariant.0 }
 
 pub returns : goal.returns
 returns c =
-    sym (ap round_answer (gathering_all (view c.args.table.now) (entries c.args.set.now) (formulas_of c.args.self.now) c.loop-p.formulas c.loop-p.p (omega (arith, procedures_are, c.loop-p.invariant.0)) (omega (arith, procedures_are, c.loop-p-test.false)) c.loop-p.invariant.1))
+    sym (ap round_answer (gathering_all (view c.args.table.now) (entries c.args.set.now) (formulas_of c.args.self.now) c.loop-p.formula-items c.loop-p.p (omega (arith, procedures_are, c.loop-p.invariant.0)) (omega (arith, procedures_are, c.loop-p-test.false)) c.loop-p.invariant.1))
