@@ -5,6 +5,12 @@ use std::alloc::AllocError;
 
 mod list;
 
+/// There is no room for one item more.
+#[derive(Clone, Copy, PartialEq, Eq, Debug)]
+pub struct Full;
+
+/// At most `N` items, the first `len` of the cells. Nothing here allocates, and it is copied where its
+/// items are: that is why it is neither a `Vec` nor a vector of the crate `arrayvec`.
 pub struct Bounded<T, const N: usize> {
     cells: [T; N],
     len: usize,
@@ -12,6 +18,8 @@ pub struct Bounded<T, const N: usize> {
     ghost few: { len ≤ N },
 }
 
+// Written out, since `Clone` is not derived over ghost fields. An `impl Model` as a list could not stand in:
+// `Copy` asks such a model to give the fields back, and the cells that are not used are none of the list.
 impl<T: Copy, const N: usize> Clone for Bounded<T, N> {
     ghost is_clone = { λ x y. y ≡ x };
 

@@ -34,15 +34,15 @@ join_is count ns joins s i j l hi hj =
 -- ---- making
 
 pub view_is : {E : Type 0} (m : Meaning E) (met : List E) (count : ℕ) (ns : Bounded ℕ 16) (joins : List (List ℕ)) (s : EffectSet) → count ≡ length met
-    → items ns ≡ (effects_table m met).numbers → map (take (length met)) (take (length met) joins) ≡ (effects_table m met).joins → s.bits ≡ (effects_table m met).breaking
+    → items ns ≡ (effects_table m met).numbers → map (take (length met)) (take (length met) joins) ≡ (effects_table m met).joins → s ≡ (effects_table m met).breaking
     → table_from count ns joins s ≡ effects_table m met
 view_is m met count ns joins s n e f g =
     let k : length (items ns) ≡ m.commands = ap length e ∙ length-map-range_with_len (λ c. numbered m.same met (m.command c)) 0 m.commands in
     let j : map (take count) (take count joins) ≡ (effects_table m met).joins = ap (λ x. map (take x) (take x joins)) n ∙ f in
-    ap (λ x. record { commands = x; count = count; numbers = items ns; joins = map (take count) (take count joins); breaking = s.bits }) k
-    ∙ ap (λ x. record { commands = m.commands; count = x; numbers = items ns; joins = map (take count) (take count joins); breaking = s.bits }) n
-    ∙ ap (λ x. record { commands = m.commands; count = length met; numbers = x; joins = map (take count) (take count joins); breaking = s.bits }) e
-    ∙ ap (λ x. record { commands = m.commands; count = length met; numbers = (effects_table m met).numbers; joins = x; breaking = s.bits }) j
+    ap (λ x. record { commands = x; count = count; numbers = items ns; joins = map (take count) (take count joins); breaking = s }) k
+    ∙ ap (λ x. record { commands = m.commands; count = x; numbers = items ns; joins = map (take count) (take count joins); breaking = s }) n
+    ∙ ap (λ x. record { commands = m.commands; count = length met; numbers = x; joins = map (take count) (take count joins); breaking = s }) e
+    ∙ ap (λ x. record { commands = m.commands; count = length met; numbers = (effects_table m met).numbers; joins = x; breaking = s }) j
     ∙ ap (λ x. record { commands = m.commands; count = length met; numbers = (effects_table m met).numbers; joins = (effects_table m met).joins; breaking = x }) g
 
 complete_from : {A B : Type 0} (f : A → B) (x : Survey A) (n : ℕ) → Some n ≡ outcome (mapped f x) → (ws : List A) × ((x ≡ complete ws) × (n ≡ length ws))

@@ -14,7 +14,7 @@ table_from count numbers joins breaking = record {
   count = count;
   numbers = items numbers;
   joins = map (take count) (take count joins);
-  breaking = breaking.bits;
+  breaking = breaking;
 }
 
 -- the table numbers the effects of some lawful rule

@@ -41,8 +41,8 @@ fn unites(rt: HostRuntime) {
 fn has_the_order_of_its_number(rt: HostRuntime) {
     let low = EffectSet::empty().with(0).with(1);
     let high = EffectSet::empty().with(2);
-    assert!(rt; EffectSet::empty().precedes(low) && low.precedes(high));
-    assert!(rt; low != high && !high.precedes(high));
+    assert!(rt; EffectSet::empty() < low && low < high);
+    assert!(rt; low != high && !(high < high));
 }
 
 #[test]

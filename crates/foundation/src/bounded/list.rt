@@ -1,9 +1,9 @@
 //! What can be done with a bounded list, said by the items that it holds.
-ghost use Rattle.std.specs.Prelude.{◌≡◌, ◌<◌, List, [], ◌∷◌, ◌++◌, length, if◌then◌else◌, MatchOption, nat_lt};
+ghost use Rattle.std.specs.Prelude.{◌≡◌, ◌<◌, ◌↔◌, List, [], ◌∷◌, ◌++◌, length, IsOk, OnOk, OnErr, MatchOption};
 ghost use Rattle.std.specs.List.{slice_get};
 ghost use Rattle.foundation.specs.Bounds.{items};
 
-use crate::bounded::Bounded;
+use crate::bounded::{Bounded, Full};
 
 impl<T: Copy, const N: usize> Bounded<T, N> {
     /// No items. The cells hold `fill` until they are used.
@@ -16,7 +16,8 @@ impl<T: Copy, const N: usize> Bounded<T, N> {
         }
     }
 
-    /// The items of a slice, or `None` where it has more than `N`.
+    /// The items of a slice, or `None` where it has more than `N`. It is no `TryFrom`, since it is
+    /// handed the fill beside the slice.
     pub fn from_slice(list: &[T], fill: T) -> Option<Bounded<T, N>>
         ensures { MatchOption result (N < length list.now) (λ b. items b ≡ list.now) }
     {
@@ -24,26 +25,25 @@ impl<T: Copy, const N: usize> Bounded<T, N> {
             return None;
         }
         let mut cells = [fill; N];
-        for (i, item) in list.iter().enumerate() {
-            cells[i] = *item;
-        }
+        cells[..list.len()].copy_from_slice(list);
         Some(Bounded {
             cells,
             len: list.len(),
         })
     }
 
-    /// Puts one more item at the end: whether there was room for it.
-    pub fn push(&mut self, item: T) -> bool
-        ensures room { result ≡ nat_lt (length (items self.old)) N }
-        ensures items { items self.new ≡ (if nat_lt (length (items self.old)) N then items self.old ++ item ∷ [] else items self.old) }
+    /// Puts one more item at the end, where there is room for it.
+    pub fn push(&mut self, item: T) -> Result<(), Full>
+        ensures room { IsOk result ↔ (length (items self.old) < N) }
+        ensures ok { OnOk result (items self.new ≡ items self.old ++ item ∷ []) }
+        ensures err { OnErr result (items self.new ≡ items self.old) }
     {
-        if self.len >= N {
-            return false;
+        if self.len == N {
+            return Err(Full);
         }
         self.cells[self.len] = item;
         self.len += 1;
-        true
+        Ok(())
     }
 
     pub fn len(&self) -> usize
@@ -55,17 +55,12 @@ impl<T: Copy, const N: usize> Bounded<T, N> {
     pub fn get(&self, i: usize) -> Option<T>
         ensures { result ≡ slice_get (items self.now) i }
     {
-        if i < self.len {
-            Some(self.cells[i])
-        } else {
-            None
-        }
+        self.as_slice().get(i).copied()
     }
 
     pub fn as_slice(&self) -> &[T]
         ensures { result.now ≡ items self.now }
     {
-        let whole = &self.cells[..];
-        &whole[0..self.len]
+        &self.cells[..self.len]
     }
 }

@@ -42,7 +42,7 @@ impl EffectTable {
 
     /// The numbers of the effects that break the rule.
     pub fn breaking(&self) -> EffectSet
-        ensures { result.bits ≡ (view self.now).breaking }
+        ensures { result ≡ (view self.now).breaking }
     {
         self.breaking
     }

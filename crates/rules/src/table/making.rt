@@ -64,7 +64,9 @@ fn number_commands<R: OrderRule>(rule: &R, met: &[R::Effect]) -> Bounded<EffectN
         let Some(effect) = rule.command(c) else {
             unreachable()
         };
-        numbers.push(number_of(rule, met, effect));
+        let Ok(()) = numbers.push(number_of(rule, met, effect)) else {
+            unreachable()
+        };
     }
     numbers
 }
@@ -96,7 +98,7 @@ fn join_all<R: OrderRule>(rule: &R, met: &[R::Effect]) -> [[EffectNumber; 64]; 6
 
 fn breaking_set<R: OrderRule>(rule: &R, met: &[R::Effect]) -> EffectSet
     requires { AllMet (R.OrderRule.meaning rule.now) met.now }
-    ensures { result.bits ≡ (effects_table (R.OrderRule.meaning rule.now) met.now).breaking }
+    ensures { result ≡ (effects_table (R.OrderRule.meaning rule.now) met.now).breaking }
 {
     let mut breaking = EffectSet::empty();
     for (i, e) in met.iter().enumerate() {

@@ -1,6 +1,5 @@
-use Rattle.std.proofs.Common.{refl}
 use Rattle.foundation.specs.Laws.Sets.{within_decides}
 use Rattle.foundation.proofs.effect_set.EffectSet.is_within.Goals as goal
 
-pub returns : goal.returns
-returns c = record { value = refl; members = within_decides c.args.self.bits c.args.other.bits }
+pub returns-clause-members : goal.returns-clause-members
+returns-clause-members c = rw (← c.self.view_is, ← c.other.view_is) (within_decides c.self.inside.bits c.other.inside.bits)

@@ -1,7 +1,10 @@
-use Rattle.std.proofs.Common.{sym, refl, arith}
+use Rattle.std.proofs.Common.{sym, arith}
 use Rattle.foundation.specs.Laws.Members.{members_ones}
 use Rattle.foundation.specs.Laws.Sets.{ones_size}
 use Rattle.foundation.proofs.effect_set.EffectSet.len.Goals as goal
 
-pub returns : goal.returns
-returns c = record { value = refl; members = ones_size 64 c.args.self.bits (omega arith); listed = sym (members_ones c.args.self.bits) }
+pub returns-clause-members : goal.returns-clause-members
+returns-clause-members c = rw (← c.self.view_is) (ones_size 64 c.self.inside.bits (omega arith))
+
+pub returns-clause-listed : goal.returns-clause-listed
+returns-clause-listed c = rw (← c.self.view_is) (sym (members_ones c.self.inside.bits))

@@ -18,7 +18,7 @@ loop-i-preserved g c =
     let own = listed_own m law met c.requires e (listed_read m law met c.requires i e c.loop-i-test.true c.index-met-i.is) in
     let is : f i ≡ c.breaks.result = ap m.breaks (sym (get_or_read met i e c.loop-i-test.true c.index-met-i.is m.neutral)) ∙ sym (c.breaks.ensures own) in
     elim c.if-breaks.branch [
-      | then-breaks w ↦ ap (λ s. s.bits) w.breaking-is ∙ w.with-breaking.ensures.value
-          ∙ member_more f 64 i c.loop-i.breaking.bits (omega (arith, met_few m law met c.requires)) c.loop-i.invariant (is ∙ w.if-breaks.true)
-      | else-breaks w ↦ ap (λ s. s.bits) w.breaking-is ∙ member_not f i c.loop-i.breaking.bits c.loop-i.invariant (is ∙ w.if-breaks.false)
+      | then-breaks w ↦ w.breaking-is ∙ w.with-breaking.ensures.value
+          ∙ member_more f 64 i c.loop-i.breaking (omega (arith, met_few m law met c.requires)) c.loop-i.invariant (is ∙ w.if-breaks.true)
+      | else-breaks w ↦ w.breaking-is ∙ member_not f i c.loop-i.breaking c.loop-i.invariant (is ∙ w.if-breaks.false)
     ]

@@ -1,7 +1,7 @@
-use Rattle.std.proofs.Common.{◌≡◌, ℕ, true, ltb, [], ◌∷◌, ◌++◌, map, length, is_some, sym, ap, ◌∙◌, subst, arith}
+use Rattle.std.proofs.Common.{◌≡◌, ℕ, true, [], ◌∷◌, ◌++◌, map, length, is_some, sym, ap, ◌∙◌, subst, arith}
 use Rattle.std.specs.List.{range_with_len}
 use Rattle.std.proofs.lemmas.List.FromFn.{length-map-range_with_len, map-range_with_len_more}
-use Rattle.std.proofs.lemmas.Bool.{cond-true, lt-ltb}
+use Rattle.std.proofs.lemmas.Bool.{false≢true}
 use Rattle.foundation.specs.Bounds.{items}
 use Rattle.rules.specs.Register.{place}
 use Rattle.rules.specs.Tables.{numbered}
@@ -24,6 +24,16 @@ number_of-requires g c =
       known = subst (λ x. is_some (place m.same 0 met x) ≡ true) (sym k.1) (listed-known m law met c.requires e l);
     }
 
+pub unreachable-requires-in_default-push : goal.unreachable-requires-in_default-push
+unreachable-requires-in_default-push g c =
+    let m = g.R.OrderRule.meaning c.args.rule.now in
+    let law = g.R.OrderRule.lawful c.args.rule.now in
+    let i = c.loop-c.c in
+    let f : ℕ → ℕ = λ d. numbered m.same c.args.met.now (m.command d) in
+    let k = known_command m law i c.in-Some.effect c.command.result c.in-Some.is c.command.ensures.some c.command.ensures.none in
+    let size : length (items c.loop-c.numbers) ≡ i = ap length c.loop-c.invariant ∙ length-map-range_with_len f 0 i in
+    false≢true (c.in_default-push.ensures.room.1 (omega (arith, size, k.0, law.few)))
+
 pub loop-c-preserved : goal.loop-c-preserved
 loop-c-preserved g c =
     let m = g.R.OrderRule.meaning c.args.rule.now in
@@ -32,10 +42,7 @@ loop-c-preserved g c =
     let i = c.loop-c.c in
     let f : ℕ → ℕ = λ d. numbered m.same met (m.command d) in
     let k = known_command m law i c.in-Some.effect c.command.result c.in-Some.is c.command.ensures.some c.command.ensures.none in
-    let size : length (items c.loop-c.numbers) ≡ i = ap length c.loop-c.invariant ∙ length-map-range_with_len f 0 i in
-    let room : ltb (length (items c.loop-c.numbers)) 16 ≡ true = lt-ltb (length (items c.loop-c.numbers)) 16 (omega (arith, k.0, law.few)) in
-    c.push.ensures.items
-    ∙ cond-true (ltb (length (items c.loop-c.numbers)) 16) (items c.loop-c.numbers ++ c.number_of.result ∷ []) (items c.loop-c.numbers) room
+    c.in-Ok.ensures.ok
     ∙ ap (λ xs. xs ++ c.number_of.result ∷ []) c.loop-c.invariant
     ∙ ap (λ x. map f (range_with_len 0 i) ++ x ∷ []) (c.number_of.ensures ∙ ap (numbered m.same met) k.1)
     ∙ sym (map-range_with_len_more f 0 i i (omega arith))
