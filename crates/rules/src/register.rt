@@ -2,7 +2,7 @@
 //!
 //! The caller's slice holds the effects at its front. The functions are handed that slice, or the
 //! part of it that is in use.
-ghost use Rattle.std.specs.Prelude.{◌≡◌, ◌≤◌, length, take, MatchOption};
+ghost use Rattle.std.specs.Prelude.{◌≡◌, ◌<◌, ◌≤◌, length, take, IfSome, MatchOption};
 ghost use Rattle.std.specs.List.{AllByRecursion};
 ghost use Rattle.rules.specs.Register.{Onward, place, entered, row, outcome, entries, written, of_effects, met_effects};
 
@@ -15,7 +15,8 @@ pub(crate) const ROOM: usize = 64;
 pub(crate) fn find<R: OrderRule>(rule: &R, met: &[R::Effect], e: R::Effect) -> Option<usize>
     requires met { AllByRecursion (R.OrderRule.meaning rule.now).own met.now }
     requires own { (R.OrderRule.meaning rule.now).own e }
-    ensures { result ≡ place (R.OrderRule.meaning rule.now).same 0 met.now e }
+    ensures place { result ≡ place (R.OrderRule.meaning rule.now).same 0 met.now e }
+    ensures within { IfSome result (λ i. i < length met.now) }
 {
     met.iter().position(|x| rule.same(*x, e))
 }

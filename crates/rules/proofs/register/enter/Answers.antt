@@ -5,5 +5,5 @@ use Rattle.rules.proofs.register.enter.Goals as goal
 
 pub returns-then-count-lt-ROOM-clause-slice : goal.returns-then-count-lt-ROOM-clause-slice
 returns-then-count-lt-ROOM-clause-slice g c =
-    enters_new (of_effects (g.R.OrderRule.meaning c.args.rule.now)) c.args.slice.now c.args.count c.args.e c.find.result c.find.ensures
+    enters_new (of_effects (g.R.OrderRule.meaning c.args.rule.now)) c.args.slice.now c.args.count c.args.e c.find.result c.find.ensures.place
     (sym c.if-is_some.ensures) c.requires.room c.if-count-lt-ROOM.true

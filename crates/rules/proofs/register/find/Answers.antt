@@ -3,8 +3,8 @@ use Rattle.std.proofs.lemmas.Iterator.{IsFirst-from_position, YieldsList-from_sl
 use Rattle.rules.proofs.Surveying.{Same, Other, place_found}
 use Rattle.rules.proofs.register.find.Goals as goal
 
-pub returns : goal.returns
-returns g c =
+pub returns-clause-place : goal.returns-clause-place
+returns-clause-place g c =
     let m = g.R.OrderRule.meaning c.args.rule.now in
     let law = g.R.OrderRule.lawful c.args.rule.now in
     let e = c.args.e in
