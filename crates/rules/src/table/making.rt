@@ -37,8 +37,7 @@ impl EffectTable {
 
 /// The number of an effect that was met.
 fn number_of<R: OrderRule>(rule: &R, met: &[R::Effect], e: R::Effect) -> EffectNumber
-    requires few { length met.now ≤ 64 }
-    requires met { AllByRecursion (R.OrderRule.meaning rule.now).own met.now }
+    requires all { AllMet (R.OrderRule.meaning rule.now) met.now }
     requires own { (R.OrderRule.meaning rule.now).own e }
     requires known { is_some (place (R.OrderRule.meaning rule.now).same 0 met.now e) ≡ true }
     ensures { result ≡ numbered (R.OrderRule.meaning rule.now).same met.now e }
