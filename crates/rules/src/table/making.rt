@@ -4,7 +4,7 @@ ghost use Rattle.std.specs.List.{AllByRecursion};
 ghost use Rattle.rules.specs.Behaviours.{behaviour};
 ghost use Rattle.foundation.specs.Bounds.{items};
 ghost use Rattle.rules.specs.Register.{place};
-ghost use Rattle.rules.specs.Surveys.{viewed, tabled, slice_after, Surveyed, AllMet};
+ghost use Rattle.rules.specs.Surveys.{view, viewed, tabled, slice_after, Surveyed, AllMet};
 ghost use Rattle.rules.specs.Tables.{numbered, join_row, effects_table};
 
 use crate::fault::EffectsFault;
@@ -26,12 +26,19 @@ impl EffectTable {
             return Err(EffectsFault::ShortSlice(slice.len()));
         }
         let count = register(rule, slice).ok_or(EffectsFault::TooMany)?;
-        let met = &slice[..count];
-        Ok(EffectTable {
-            numbers: number_commands(rule, met),
-            joins: join_all(rule, met),
-            breaking: breaking_set(rule, met),
-        })
+        Ok(table_of(rule, &slice[..count]))
+    }
+}
+
+/// The table of all effects that were met.
+fn table_of<R: OrderRule>(rule: &R, met: &[R::Effect]) -> EffectTable
+    requires { AllMet (R.OrderRule.meaning rule.now) met.now }
+    ensures { view result ≡ effects_table (R.OrderRule.meaning rule.now) met.now }
+{
+    EffectTable {
+        numbers: number_commands(rule, met),
+        joins: join_all(rule, met),
+        breaking: breaking_set(rule, met),
     }
 }
 
