@@ -16,14 +16,6 @@ use Rattle.rules.specs.Meaning.{Meaning, Lawful, Below, effect}
 use Rattle.rules.proofs.Effects.{effect_own, effect_push}
 
 module _ {E : Type 0} (m : Meaning E) (law : Lawful m) where
-  -- a command that has an effect is one of the rule's
-  pub known_command : (c : ℕ) (x : E) (o : Option E) → o ≡ Some x → (c < m.commands → o ≡ Some (m.command c)) → (m.commands ≤ c → o ≡ None) → (c < m.commands) × (x ≡ m.command c)
-  known_command c x o is some none = go (cases_lt c m.commands)
-    where
-      go : (c < m.commands) ⊎ (m.commands ≤ c) → (c < m.commands) × (x ≡ m.command c)
-      go (inl h) = (h, let e = some h in cc)
-      go (inr h) = let e = none h in let z : ◌≡◌ {A = ℕ} 0 1 = cc in absurd (omega arith)
-
   -- one turn: the command's effect is joined, or the rule lacks the command
   abbrev pub Turn : E → ℕ → Option E → Type 0
   Turn e c r = m.own e → MatchOption r (m.commands ≤ c) (λ x. (c < m.commands) × (x ≡ m.join e (m.command c)))

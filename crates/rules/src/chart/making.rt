@@ -53,12 +53,8 @@ impl Chart {
             boxes: [0; 16],
             finals: [false; 8],
         };
-        for i in 0..whole {
-            let at = RECORD_LEN * i;
-            let Some(item) = ChartRecord::read(&bytes[at..at + RECORD_LEN]) else {
-                return Err(RuleFault::ChartRecord(i));
-            };
-            chart.draw(item);
+        for (i, record) in bytes.chunks_exact(RECORD_LEN).enumerate() {
+            chart.draw(ChartRecord::read(record).ok_or(RuleFault::ChartRecord(i))?);
         }
         Ok(chart)
     }

@@ -15,16 +15,12 @@ impl Count {
         if modulus == 0 || modulus > 64 {
             return Err(RuleFault::Modulus);
         }
-        let Some(kept) = Bounded::<u8, 16>::from_slice(weights, 0) else {
-            return Err(RuleFault::WeightCount);
-        };
+        let kept = Bounded::<u8, 16>::from_slice(weights, 0).ok_or(RuleFault::WeightCount)?;
         if weights.is_empty() {
             return Err(RuleFault::WeightCount);
         }
-        for (i, weight) in weights.iter().enumerate() {
-            if *weight >= modulus {
-                return Err(RuleFault::Weight(i as u8));
-            }
+        if let Some(i) = weights.iter().position(|weight| *weight >= modulus) {
+            return Err(RuleFault::Weight(i as u8));
         }
         if modulus < 64 && permitted >> modulus != 0 {
             return Err(RuleFault::Mask);
