@@ -1,8 +1,7 @@
 //! Charts: finite automata over eight states, with boxes as effects.
 ghost use Rattle.std.specs.Prelude.{◌≡◌, ℕ, ◌^◌, ◌<◌, slice_index};
 ghost use Rattle.foundation.specs.Bits.{has};
-ghost use Rattle.rules.specs.Boxes.{through, composed, accepting, charted};
-ghost use Rattle.rules.specs.Laws.Boxes.{charted_lawful};
+ghost use Rattle.rules.specs.Boxes.{through, composed, accepting};
 
 use crate::rule::{Command, OrderRule};
 
@@ -56,9 +55,11 @@ fn accepts(finals: &[bool; 8], a: BoxWord) -> bool
 impl OrderRule for Chart {
     type Effect = BoxWord;
 
-    ghost meaning = { λ x. charted x.boxes x.finals };
+    ghost use Rattle.rules.specs.Kinds.{chart_meaning, chart_lawful};
 
-    ghost lawful = { λ x. charted_lawful x.boxes x.finals x.boxed };
+    ghost meaning = { chart_meaning };
+
+    ghost lawful = { chart_lawful };
 
     fn commands(&self) -> u8 {
         16
