@@ -46,7 +46,10 @@ fn read_records(bytes: &[u8]) -> Result<Bounded<Record, 128>, RecordsFault>
     }
     let mut records = Bounded::<Record, 128>::empty(Record::blank());
     for (i, piece) in bytes.chunks_exact(RECORD_LEN).enumerate() {
-        records.push(Record::read(piece).ok_or(RecordsFault::Form(i))?);
+        let record = Record::read(piece).ok_or(RecordsFault::Form(i))?;
+        let Ok(()) = records.push(record) else {
+            unreachable()
+        };
     }
     Ok(records)
 }

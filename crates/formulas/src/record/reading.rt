@@ -82,7 +82,10 @@ fn read_body(bytes: &[u8]) -> Option<Bounded<Symbol, 9>>
 {
     let mut body = Bounded::<Symbol, 9>::empty(Symbol::Command(0));
     for byte in bytes {
-        body.push(Symbol::try_from(*byte).ok()?);
+        let symbol = Symbol::try_from(*byte).ok()?;
+        let Ok(()) = body.push(symbol) else {
+            unreachable()
+        };
     }
     Some(body)
 }
