@@ -4,20 +4,11 @@ use mathlib.Core.Bool.{false≢true}
 use Rattle.std.specs.Cmp.Lexicographic.{pointwise, bytes_decides}
 use Rattle.std.specs.Ordering.{on}
 use Rattle.std.specs.Prelude.{nat_eq}
-use Rattle.foundation.specs.declared.effect_set.EffectSet.{EffectSet}
 use Rattle.foundation.specs.Bits.{has}
 use Rattle.formulas.specs.declared.formula.Formula.{Formula}
-use Rattle.formulas.specs.Masks.{mask, masks}
 use Rattle.formulas.specs.Formulas.{meets}
 use Rattle.formulas.specs.FormulaViews.{formula_list, ToldApart}
 use Rattle.formulas.proofs.Normals.{test_normal, same_formula}
-
--- the test of two lists of sets is that of their numbers
-pub tested_masks : (xs ys : List EffectSet) → pointwise (on mask nat_eq) xs ys ≡ pointwise nat_eq (masks xs) (masks ys)
-tested_masks [] [] = refl
-tested_masks [] (y ∷ ys) = refl
-tested_masks (x ∷ xs) [] = refl
-tested_masks (x ∷ xs) (y ∷ ys) = ap (λ b. nat_eq x.bits y.bits && b) (tested_masks xs ys)
 
 -- the test of two formulas' clauses, which `==` answers and `!=` negates, tells them apart
 pub formulas_told : (a b : Formula) → ToldApart (formula_list a) (formula_list b) (on formula_list (pointwise nat_eq) a b)

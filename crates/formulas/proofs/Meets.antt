@@ -49,9 +49,9 @@ module _ (A : ℕ → Bool) where
       go true ih = and_comm (hits A C) (hits A K && meets A F)
       go false ih = ap (λ b. hits A K && b) ih ∙ sym (and_assoc (hits A K) (meets A F) (hits A C))
 
-  held-meets : (C : ℕ) (F : List ℕ) → any (λ K. within K C) F ≡ true → meets A F ≡ (meets A F && hits A C)
-  held-meets C [] h = absurd (false≢true h)
-  held-meets C (K ∷ F) h = go (within K C) refl h (held-meets C F)
+  items-meets : (C : ℕ) (F : List ℕ) → any (λ K. within K C) F ≡ true → meets A F ≡ (meets A F && hits A C)
+  items-meets C [] h = absurd (false≢true h)
+  items-meets C (K ∷ F) h = go (within K C) refl h (items-meets C F)
     where
       go : (b : Bool) → within K C ≡ b → (b || any (λ K. within K C) F) ≡ true → (any (λ K. within K C) F ≡ true → meets A F ≡ (meets A F && hits A C))
           → (hits A K && meets A F) ≡ ((hits A K && meets A F) && hits A C)
@@ -67,7 +67,7 @@ module _ (A : ℕ → Bool) where
     offer-meets C F = go (any (λ K. within K C) F) refl (ltb (length (outside C F)) limit)
       where
         go : (b : Bool) → any (λ K. within K C) F ≡ b → (d : Bool) → Given (cond b (Some F) (cond d (Some (placed C (outside C F))) None)) (λ R. meets A R ≡ (meets A F && hits A C))
-        go true e d = held-meets C F e
+        go true e d = items-meets C F e
         go false e true = placed-meets C (outside C F) ∙ outside-meets C F
         go false e false = tt
 

@@ -187,7 +187,7 @@ nil_normal = record { rising = ordered_climbs [] tt; apart = λ K L m k s. elim 
 pub one_normal : (C : ℕ) → Normal (C ∷ [])
 one_normal C = record { rising = ordered_climbs (C ∷ []) (tt, tt); apart = λ K L m k s. Memᴰ.eq_of_singleton m ∙ sym (Memᴰ.eq_of_singleton k) }
 
--- ---- what is held are the smallest clauses
+-- ---- what is items are the smallest clauses
 
 in_outside : (C : ℕ) (F : List ℕ) (K : ℕ) → Memᴰ K F → within C K ≡ false → Memᴰ K (outside C F)
 in_outside C [] K m n = elim m [ ]

@@ -1,19 +1,17 @@
 -- Where an offered clause stands, and what is left of the others.
-use Rattle.std.proofs.Common.{◌≡◌, ℕ, zero, suc, ◌+◌, ◌-◌, ◌<◌, ◌≤◌, true, false, cond, not, ◌&&◌, ◌||◌, ltb, leb, List, [], ◌∷◌, ◌++◌, length, get_or, take, drop, Some, None, sym, refl, ap, ◌∙◌, subst, arith}
-use Rattle.std.specs.List.{AllByRecursion, slice_get}
+use Rattle.std.proofs.Common.{◌≡◌, ℕ, zero, suc, ◌+◌, ◌-◌, ◌<◌, ◌≤◌, Bool, true, false, cond, not, ◌&&◌, ◌||◌, ltb, List, [], ◌∷◌, ◌++◌, length, get_or, take, drop, Some, None, sym, refl, ap, ◌∙◌, subst, ⊎_elim, arith}
+use Rattle.std.specs.List.{AllByRecursion}
 use Rattle.std.proofs.lemmas.List.Elements.{filter-append, filter_more}
 use Rattle.std.proofs.ByRecursion.{All-weaker, All-more, all_kept_by}
-use Rattle.std.proofs.lemmas.List.{length-map, get_or-map, map-append, take-map, drop-map, take-append-drop, take_all, length-take-le, length-drop, append_assoc, append-nil, length-append, length_push}
-use Rattle.std.proofs.lemmas.Bool.{ltb-true, ltb-false, lt-ltb, le-ltb, lt-leb, le-leb, leb-false, or_right, or_from, cond-true, cond-false, not_from_false, both_ways}
+use Rattle.std.proofs.lemmas.List.{take-append-drop, length-take-le, get_or_default, append_assoc, append-nil, length-append, length_push}
+use Rattle.std.proofs.lemmas.Bool.{ltb-true, ltb-false, lt-ltb, le-ltb, false≢true, cases_lt, or_right, or_from, cond-true, cond-false, not_from_false, both_ways}
 use Rattle.foundation.specs.declared.bounded.Bounded.{Bounded}
-use Rattle.foundation.specs.declared.effect_set.EffectSet.{EffectSet}
 use Rattle.foundation.specs.Bounds.{items}
 use Rattle.foundation.specs.Sets.{within, hits}
 use Rattle.foundation.specs.Tests.{any}
 use Rattle.foundation.specs.Laws.Bounds.{length_items}
 use Rattle.formulas.specs.Clauses.{entering, Stands, AndAlso, SmallestOf}
 use Rattle.formulas.specs.Formulas.{meets, Normal, outside, placed, offer}
-use Rattle.formulas.specs.Masks.{mask, masks, held}
 use Rattle.formulas.proofs.Given.{given_some}
 use Rattle.formulas.proofs.Meets.{offer-meets}
 use Rattle.formulas.proofs.Normals.{Ordered, within_le, within_self, entered_normal, entered_smallest}
@@ -60,135 +58,78 @@ stands_at C (K ∷ F) (suc i) o p h =
       is = ap (placed C) (outside_keeps C K F l) ∙ cond-false (ltb C K) (C ∷ K ∷ outside C F) (K ∷ placed C (outside C F)) (le-ltb C K (omega arith)) ∙ ap (λ x. K ∷ x) s.is;
     }
 
--- ---- by the sets that the code holds
-
-pub nth_mask : (xs : List EffectSet) (i : ℕ) (s : EffectSet) → slice_get xs i ≡ Some s → (i < length (masks xs)) × (get_or (masks xs) i 0 ≡ mask s)
-nth_mask [] i s e = absurd (let z : ◌≡◌ {A = ℕ} 0 1 = cc in omega arith)
-nth_mask (x ∷ xs) zero s e = (omega arith, let z : x ≡ s = cc in ap mask z)
-nth_mask (x ∷ xs) (suc i) s e = let r = nth_mask xs i s e in (omega (arith, r.0), r.1)
-
-pub nth_none : (xs : List EffectSet) (i : ℕ) → slice_get xs i ≡ None → length (masks xs) ≤ i
-nth_none [] i e = omega arith
-nth_none (x ∷ xs) zero e = absurd (let z : ◌≡◌ {A = ℕ} 0 1 = cc in omega arith)
-nth_none (x ∷ xs) (suc i) e = omega (arith, nth_none xs i e)
-
-module _ (C : ℕ) (xs : List EffectSet) (i : ℕ) (s : EffectSet) (at : Some s ≡ slice_get xs i) (p : Passed C (masks xs) i) where
-  at_place : (i < length (masks xs)) × (get_or (masks xs) i 0 ≡ mask s)
-  at_place = nth_mask xs i s (sym at)
-
-  pub spot_held : within (mask s) C ≡ true → any (λ K. within K C) (masks xs) ≡ true
-  spot_held e = found (masks xs) i at_place.0 (ap (λ K. within K C) at_place.1 ∙ e)
+module _ (C : ℕ) (F : List ℕ) (i : ℕ) (h : i < length F) (K : ℕ) (is : K ≡ get_or F i K) (p : Passed C F i) where
+  pub spot_held : within K C ≡ true → any (λ L. within L C) F ≡ true
+  spot_held e = held F i h (ap (λ x. within x C) (sym is) ∙ e)
     where
-      found : (F : List ℕ) (i : ℕ) → i < length F → within (get_or F i 0) C ≡ true → any (λ K. within K C) F ≡ true
-      found [] i h e = absurd (omega arith)
-      found (K ∷ F) zero h e = ap (λ b. b || any (λ K. within K C) F) e
-      found (K ∷ F) (suc i) h e = or_right (within K C) (any (λ K. within K C) F) (found F i (omega arith) e)
+      held : (F : List ℕ) (i : ℕ) → i < length F → within (get_or F i K) C ≡ true → any (λ L. within L C) F ≡ true
+      held [] i h e = absurd (omega arith)
+      held (L ∷ F) zero h e = ap (λ b. b || any (λ L. within L C) F) e
+      held (L ∷ F) (suc i) h e = or_right (within L C) (any (λ L. within L C) F) (held F i (omega arith) e)
 
-  pub passed_more : within (mask s) C ≡ false → ltb C (mask s) ≡ false → Passed C (masks xs) (i + 1)
+  pub passed_more : within K C ≡ false → ltb C K ≡ false → Passed C F (i + 1)
   passed_more w l =
-      let K = mask s in
       let ne : K ≡ C → ⊥ = λ q. both_ways (within K C) w (ap (λ x. within x C) q ∙ within_self C) in
-      let le : K ≤ C = omega (arith, ltb-false C K l) in (
-        omega (arith, at_place.0),
-        All-more (λ K. (within K C ≡ false) × (K < C)) (masks xs) i 0 at_place.0 p.1
-            (subst (λ x. (within x C ≡ false) × (x < C)) (sym at_place.1) (w, omega (arith, ne))),
-      )
+      let le : K ≤ C = omega (arith, ltb-false C K l) in
+      (omega arith, All-more (λ L. (within L C ≡ false) × (L < C)) F i K h p.1 (subst (λ x. (within x C ≡ false) × (x < C)) is (w, omega (arith, ne))))
 
-  pub spot_here : Ordered (masks xs) → ltb C (mask s) ≡ true → Stands C (masks xs) i
-  spot_here o l = stands_at C (masks xs) i o p (λ h. omega (arith, at_place.1, ltb-true C (mask s) l))
+  pub spot_here : Ordered F → C < K → Stands C F i
+  spot_here o l = stands_at C F i o p (λ _. omega (arith, l, is, get_or_default F i K 0 h))
 
-pub spot_end : (C : ℕ) (xs : List EffectSet) (i : ℕ) → Ordered (masks xs) → None ≡ slice_get xs i → Passed C (masks xs) i → Stands C (masks xs) i
-spot_end C xs i o e p = stands_at C (masks xs) i o p (λ h. absurd (omega (arith, nth_none xs i (sym e))))
+pub spot_end : (C : ℕ) (F : List ℕ) (i : ℕ) → Ordered F → length F ≤ i → Passed C F i → Stands C F i
+spot_end C F i o e p = stands_at C F i o p (λ h. absurd (omega arith))
 
-pub length_held : (b : Bounded EffectSet 64) → length (held b) ≡ length (items b)
-length_held b = length-map (items b) mask
-
-pub held_few : (b : Bounded EffectSet 64) → length (held b) ≤ 64
-held_few b = omega (arith, length_held b, length_items b, b.few)
+pub items_few : (b : Bounded ℕ 64) → length (items b) ≤ 64
+items_few b = omega (arith, length_items b, b.few)
 
 -- ---- adding the clauses that do not contain C
 
-module _ (C : ℕ) (old next : Bounded EffectSet 64) (rest : List EffectSet) (i : ℕ) (h : i < length rest) (inv : held next ≡ held old ++ outside C (take i (masks rest))) where
-  there : i < length (masks rest)
-  there = omega (arith, length-map rest mask)
+-- a list that took nothing more is full
+pub no_room : {n m : ℕ} → (n < m → false ≡ true) → m ≤ n
+no_room {n} {m} h = ⊎_elim (λ l. absurd (false≢true (h l))) (λ l. l) (cases_lt n m)
 
-  more : outside C (take (i + 1) (masks rest)) ≡ outside C (take i (masks rest)) ++ cond (not (within C (get_or rest i (record { bits = 0 })).bits)) ((get_or rest i (record { bits = 0 })).bits ∷ []) []
-  more =
-      filter_more (λ K. not (within C K)) (masks rest) i 0 there
-      ∙ ap (λ K. outside C (take i (masks rest)) ++ cond (not (within C K)) (K ∷ []) []) (get_or-map mask rest i (record { bits = 0 }) 0 h)
+module _ (C : ℕ) (old next : Bounded ℕ 64) (rest : List ℕ) (i : ℕ) (h : i < length rest) (K : ℕ) (is : K ≡ get_or rest i K) (inv : items next ≡ items old ++ outside C (take i rest)) where
+  more : (b : Bool) → within C K ≡ b → outside C (take (i + 1) rest) ≡ outside C (take i rest) ++ cond (not b) (K ∷ []) []
+  more b w = filter_more (λ L. not (within C L)) rest i K h ∙ ap (λ x. outside C (take i rest) ++ cond (not (within C x)) (x ∷ []) []) (sym is) ∙ ap (λ t. outside C (take i rest) ++ cond (not t) (K ∷ []) []) w
 
-  pub adding_no : within C (get_or rest i (record { bits = 0 })).bits ≡ true → held next ≡ held old ++ outside C (take (i + 1) (masks rest))
-  adding_no w =
-      inv ∙ ap (λ l. held old ++ l) (sym (more ∙ ap (λ b. outside C (take i (masks rest)) ++ cond (not b) ((get_or rest i (record { bits = 0 })).bits ∷ []) []) w ∙ append-nil (outside C (take i (masks rest)))))
+  pub adding_no : within C K ≡ true → items next ≡ items old ++ outside C (take (i + 1) rest)
+  adding_no w = inv ∙ ap (λ l. items old ++ l) (sym (more true w ∙ append-nil (outside C (take i rest))))
 
-  pub adding_yes : (pushed : Bounded EffectSet 64) → items pushed ≡ items next ++ get_or rest i (record { bits = 0 }) ∷ [] → within C (get_or rest i (record { bits = 0 })).bits ≡ false → held pushed ≡ held old ++ outside C (take (i + 1) (masks rest))
+  pub adding_yes : (pushed : Bounded ℕ 64) → items pushed ≡ items next ++ K ∷ [] → within C K ≡ false → items pushed ≡ items old ++ outside C (take (i + 1) rest)
   adding_yes pushed p w =
-      ap masks p ∙ map-append mask (items next) (get_or rest i (record { bits = 0 }) ∷ []) ∙ ap (λ l. l ++ (get_or rest i (record { bits = 0 })).bits ∷ []) inv
-      ∙ append_assoc (held old) (outside C (take i (masks rest))) ((get_or rest i (record { bits = 0 })).bits ∷ [])
-      ∙ ap (λ l. held old ++ l) (sym (more ∙ ap (λ b. outside C (take i (masks rest)) ++ cond (not b) ((get_or rest i (record { bits = 0 })).bits ∷ []) []) w))
+      p ∙ ap (λ l. l ++ K ∷ []) inv ∙ append_assoc (items old) (outside C (take i rest)) (K ∷ []) ∙ ap (λ l. items old ++ l) (sym (more false w))
 
-  pub adding_full : within C (get_or rest i (record { bits = 0 })).bits ≡ false → ltb (length (items next)) 64 ≡ false → leb (length (held old) + length (outside C (masks rest))) 64 ≡ false
+  pub adding_full : within C K ≡ false → 64 ≤ length (items next) → 64 < length (items old) + length (outside C rest)
   adding_full w full =
-      let n = length (outside C (take i (masks rest))) in
-      let one : length (outside C (take (i + 1) (masks rest))) ≡ n + 1 =
-      ap length (more ∙ ap (λ b. outside C (take i (masks rest)) ++ cond (not b) ((get_or rest i (record { bits = 0 })).bits ∷ []) []) w) ∙ length_push (outside C (take i (masks rest))) (get_or rest i (record { bits = 0 })).bits in
-      let parts : length (outside C (masks rest)) ≡ length (outside C (take (i + 1) (masks rest))) + length (outside C (drop (i + 1) (masks rest))) =
-      ap (λ l. length (outside C l)) (sym (take-append-drop (i + 1) (masks rest)))
-      ∙ ap length (filter-append (λ K. not (within C K)) (take (i + 1) (masks rest)) (drop (i + 1) (masks rest)))
-      ∙ length-append (outside C (take (i + 1) (masks rest))) (outside C (drop (i + 1) (masks rest))) in
-      lt-leb (length (held old) + length (outside C (masks rest))) 64
-      (omega (arith, ltb-false (length (items next)) 64 full, length_held next, ap length inv, length-append (held old) (outside C (take i (masks rest))), one, parts))
-
-pub adding_all : (C : ℕ) (old next : Bounded EffectSet 64) (rest : List EffectSet) (i : ℕ) → length rest ≤ i → held next ≡ held old ++ outside C (take i (masks rest)) → held next ≡ held old ++ outside C (masks rest)
-adding_all C old next rest i h inv = inv ∙ ap (λ l. held old ++ outside C l) (take_all i (masks rest) (omega (arith, length-map rest mask)))
-
-pub adding_room : (C : ℕ) (old next : Bounded EffectSet 64) (G : List ℕ) → held next ≡ held old ++ outside C G → leb (length (held old) + length (outside C G)) 64 ≡ true
-adding_room C old next G e = le-leb (length (held old) + length (outside C G)) 64 (omega (arith, held_few next, ap length e, length-append (held old) (outside C G)))
+      let one = ap length (more false w) ∙ length_push (outside C (take i rest)) K in
+      let parts =
+      ap (λ l. length (outside C l)) (sym (take-append-drop (i + 1) rest))
+      ∙ ap length (filter-append (λ L. not (within C L)) (take (i + 1) rest) (drop (i + 1) rest))
+      ∙ length-append (outside C (take (i + 1) rest)) (outside C (drop (i + 1) rest)) in
+      omega (arith, full, ap length inv, length-append (items old) (outside C (take i rest)), one, parts)
 
 -- ---- the clauses with C at its place
 
-module _ (c : EffectSet) (xs slice : List EffectSet) (is : slice ≡ xs) (at : ℕ) (h : at ≤ length xs) (front : Bounded EffectSet 64) (made : items front ≡ take (at - 0) slice) where
-  front_is : held front ≡ take at (masks xs)
-  front_is =
-      let n : at - 0 ≡ at = omega arith in
-      ap masks (made ∙ ap (λ k. take k slice) n ∙ ap (take at) is) ∙ sym (take-map mask at xs)
-
-  front_long : length (held front) ≡ at
-  front_long = ap length front_is ∙ length-take-le at (masks xs) (omega (arith, length-map xs mask))
-
-  entering_long : length (entering (mask c) (masks xs) at) ≡ at + 1 + length (outside (mask c) (drop at (masks xs)))
+module _ (C : ℕ) (F : List ℕ) (at : ℕ) (h : at ≤ length F) where
+  entering_long : length (entering C F at) ≡ at + 1 + length (outside C (drop at F))
   entering_long =
-      length-append (take at (masks xs)) (mask c ∷ outside (mask c) (drop at (masks xs)))
-      ∙ (let n = length-take-le at (masks xs) (omega (arith, length-map xs mask)) in omega (arith, n))
+      length-append (take at F) (C ∷ outside C (drop at F)) ∙ (let n = length-take-le at F h in omega (arith, n))
 
-  pub entering_no_room : ltb (length (items front)) 64 ≡ false → 64 < length (entering (mask c) (masks xs) at)
-  entering_no_room full = omega (arith, ltb-false (length (items front)) 64 full, length_held front, front_long, entering_long)
+  pub front_too_long : 64 < length (take at F) → 64 < length (entering C F at)
+  front_too_long l = omega (arith, length-take-le at F h, entering_long)
 
-  rest_is : masks (take (length slice - at) (drop at slice)) ≡ drop at (masks xs)
-  rest_is =
-      ap masks (take_all (length slice - at) (drop at slice) (omega (arith, length-drop at slice)) ∙ ap (drop at) is) ∙ sym (drop-map mask at xs)
+  module _ (front : Bounded ℕ 64) (made : items front ≡ take at F) where
+    pub entering_no_room : 64 ≤ length (items front) → 64 < length (entering C F at)
+    entering_no_room full = omega (arith, full, ap length made, length-take-le at F h, entering_long)
 
-  module _ (with_c : Bounded EffectSet 64) (pushed : items with_c ≡ items front ++ c ∷ []) where
-    with_is : held with_c ≡ take at (masks xs) ++ mask c ∷ []
-    with_is = ap masks pushed ∙ map-append mask (items front) (c ∷ []) ∙ ap (λ l. l ++ mask c ∷ []) front_is
+    module _ (with_c : Bounded ℕ 64) (pushed : items with_c ≡ items front ++ C ∷ []) where
+      pub entering_too_many : 64 < length (items with_c) + length (outside C (drop at F)) → 64 < length (entering C F at)
+      entering_too_many full =
+          omega (arith, full, ap length pushed, length_push (items front) C, ap length made, length-take-le at F h, entering_long)
 
-    pub entering_too_many : leb (length (held with_c) + length (outside (mask c) (masks (take (length slice - at) (drop at slice))))) 64 ≡ false → 64 < length (entering (mask c) (masks xs) at)
-    entering_too_many full =
-        omega (
-          arith,
-          leb-false (length (held with_c) + length (outside (mask c) (masks (take (length slice - at) (drop at slice))))) 64 full,
-          ap length with_is,
-          length_push (take at (masks xs)) (mask c),
-          ap length (sym front_is),
-          front_long,
-          ap (λ l. length (outside (mask c) l)) rest_is,
-          entering_long,
-        )
-
-    pub entering_made : (next : Bounded EffectSet 64) → held next ≡ held with_c ++ outside (mask c) (masks (take (length slice - at) (drop at slice))) → held next ≡ entering (mask c) (masks xs) at
-    entering_made next e =
-        e ∙ ap (λ l. l ++ outside (mask c) (masks (take (length slice - at) (drop at slice)))) with_is
-        ∙ ap (λ l. (take at (masks xs) ++ mask c ∷ []) ++ outside (mask c) l) rest_is ∙ append_assoc (take at (masks xs)) (mask c ∷ []) (outside (mask c) (drop at (masks xs)))
+      pub entering_made : (next : Bounded ℕ 64) → items next ≡ items with_c ++ outside C (drop at F) → items next ≡ entering C F at
+      entering_made next e =
+          e ∙ ap (λ l. l ++ outside C (drop at F)) (pushed ∙ ap (λ l. l ++ C ∷ []) made) ∙ append_assoc (take at F) (C ∷ []) (outside C (drop at F))
 
 -- ---- how an offer comes out
 
@@ -212,18 +153,18 @@ module _ (C : ℕ) (F : List ℕ) where
         cond-false (any (λ K. within K C) F) (Some F) (cond (ltb (length (outside C F)) 64) (Some (placed C (outside C F))) None) s.new
         ∙ cond-false (ltb (length (outside C F)) 64) (Some (placed C (outside C F))) None (le-ltb (length (outside C F)) 64 (omega (arith, outside_long)))
 
-    pub offer-entered : (b : Bounded EffectSet 64) → held b ≡ entering C F i → offer 64 C F ≡ Some (held b)
+    pub offer-entered : (b : Bounded ℕ 64) → items b ≡ entering C F i → offer 64 C F ≡ Some (items b)
     unfolding offer
     offer-entered b e =
         cond-false (any (λ K. within K C) F) (Some F) (cond (ltb (length (outside C F)) 64) (Some (placed C (outside C F))) None) s.new
-        ∙ cond-true (ltb (length (outside C F)) 64) (Some (placed C (outside C F))) None (lt-ltb (length (outside C F)) 64 (omega (arith, outside_long, ap length e, held_few b)))
+        ∙ cond-true (ltb (length (outside C F)) 64) (Some (placed C (outside C F))) None (lt-ltb (length (outside C F)) 64 (omega (arith, outside_long, ap length e, items_few b)))
         ∙ ap Some (s.is ∙ sym e)
 
-    pub entered_least : Normal F → (b : Bounded EffectSet 64) → held b ≡ entering C F i → SmallestOf F C (held b)
+    pub entered_least : Normal F → (b : Bounded ℕ 64) → items b ≡ entering C F i → SmallestOf F C (items b)
     entered_least n b e = subst (SmallestOf F C) (s.is ∙ sym e) (entered_smallest C F n s.new)
 
     -- the new list is normal too
-    pub entered_form : Normal F → (b : Bounded EffectSet 64) → held b ≡ entering C F i → Normal (held b)
+    pub entered_form : Normal F → (b : Bounded ℕ 64) → items b ≡ entering C F i → Normal (items b)
     entered_form n b e = subst Normal (s.is ∙ sym e) (entered_normal C F n s.new)
 
 pub offer_also : (C : ℕ) (F G : List ℕ) → offer 64 C F ≡ Some G → AndAlso F C G

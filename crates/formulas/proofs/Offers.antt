@@ -1,26 +1,20 @@
 -- Clauses offered one after the other.
-use Rattle.std.proofs.Common.{◌≡◌, ℕ, ◌+◌, ◌<◌, ◌≤◌, Bool, true, false, cond, ltb, List, [], ◌∷◌, ◌++◌, map, length, get_or, drop, is_err, Some, None, Ok, Err, Option, Result, refl, ap, ◌∙◌, arith}
+use Rattle.std.proofs.Common.{◌≡◌, ℕ, ◌+◌, ◌<◌, ◌≤◌, Bool, true, false, cond, ltb, List, [], ◌∷◌, ◌++◌, map, length, get_or, drop, is_err, OnOk, OnErr, Some, None, Ok, Err, Option, Result, sym, refl, ap, ◌∙◌, arith}
 use mathlib.Core.Bool.{false≢true}
 use lib.Bits.{bit_or}
-use Rattle.std.proofs.lemmas.List.{length-map, length-append, get_or-map, drop_more, drop_all}
-use Rattle.foundation.specs.declared.effect_set.EffectSet.{EffectSet}
+use Rattle.std.proofs.lemmas.List.{length-map, length-append, drop_more}
 use Rattle.foundation.specs.Sets.{within}
 use Rattle.foundation.specs.Tests.{any}
 use Rattle.formulas.specs.declared.fault.Overflow.{Overflow}
-use Rattle.formulas.specs.Clauses.{OfferedAll}
+use Rattle.formulas.specs.Clauses.{Offered, OfferedAll}
 use Rattle.formulas.specs.Steps.{bind}
 use Rattle.formulas.specs.Formulas.{outside, placed, offer, offers, unions}
-use Rattle.formulas.specs.Masks.{mask, masks}
 use Rattle.formulas.proofs.Given.{Given, given_bind}
 
--- ---- the sets that the code holds, from a place on
+-- ---- over the code's lists: the element that is read stands in front of those that are left
 
-pub masks_from : (xs : List EffectSet) (i : ℕ) → i < length xs → drop i (masks xs) ≡ mask (get_or xs i (record { bits = 0 })) ∷ drop (i + 1) (masks xs)
-masks_from xs i h =
-    drop_more (masks xs) i 0 (omega (arith, length-map xs mask)) ∙ ap (λ K. K ∷ drop (i + 1) (masks xs)) (get_or-map mask xs i (record { bits = 0 }) 0 h)
-
-pub masks_end : (xs : List EffectSet) (i : ℕ) → length xs ≤ i → drop i (masks xs) ≡ []
-masks_end xs i h = drop_all i (masks xs) (omega (arith, length-map xs mask))
+pub drop_item : {X : Type 0} (xs : List X) (i : ℕ) (x : X) → i < length xs → x ≡ get_or xs i x → drop i xs ≡ x ∷ drop (i + 1) xs
+drop_item xs i x h is = drop_more xs i x h ∙ ap (λ y. y ∷ drop (i + 1) xs) (sym is)
 
 module _ (limit : ℕ) where
   pub offers_append : (F xs ys : List ℕ) → offers limit F (xs ++ ys) ≡ bind (offers limit F xs) (λ R. offers limit R ys)
@@ -31,30 +25,29 @@ module _ (limit : ℕ) where
       go None ih = refl
       go (Some R) ih = ih R
 
-  -- one step over the code's list
-  pub offers_from : (F : List ℕ) (xs : List EffectSet) (i : ℕ) (o : Option (List ℕ)) → i < length xs → offer limit (mask (get_or xs i (record { bits = 0 }))) F ≡ o → offers limit F (drop i (masks xs)) ≡ bind o (λ R. offers limit R (drop (i + 1) (masks xs)))
-  offers_from F xs i o h e = ap (offers limit F) (masks_from xs i h) ∙ ap (λ o. bind o (λ R. offers limit R (drop (i + 1) (masks xs)))) e
+  pub offers_from : (F left more : List ℕ) (K : ℕ) (o : Option (List ℕ)) → left ≡ K ∷ more → offer limit K F ≡ o → offers limit F left ≡ bind o (λ R. offers limit R more)
+  offers_from F left more K o front e = ap (offers limit F) front ∙ ap (λ o. bind o (λ R. offers limit R more)) e
 
-  pub offers_end : (F : List ℕ) (xs : List EffectSet) (i : ℕ) → length xs ≤ i → offers limit F (drop i (masks xs)) ≡ Some F
-  offers_end F xs i h = ap (offers limit F) (masks_end xs i h)
+  pub offers_end : (F left : List ℕ) → left ≡ [] → offers limit F left ≡ Some F
+  offers_end F left none = ap (offers limit F) none
 
-  -- the unions of K with the sets from a place on
-  pub row_from : (F : List ℕ) (K : ℕ) (xs : List EffectSet) (i : ℕ) (o : Option (List ℕ)) → i < length xs → offer limit (bit_or K (mask (get_or xs i (record { bits = 0 })))) F ≡ o
-      → offers limit F (map (bit_or K) (drop i (masks xs))) ≡ bind o (λ R. offers limit R (map (bit_or K) (drop (i + 1) (masks xs))))
-  row_from F K xs i o h e = ap (λ l. offers limit F (map (bit_or K) l)) (masks_from xs i h) ∙ ap (λ o. bind o (λ R. offers limit R (map (bit_or K) (drop (i + 1) (masks xs))))) e
+  -- the unions of K with each of a list
+  pub row_from : (F : List ℕ) (K : ℕ) (left more : List ℕ) (L : ℕ) (o : Option (List ℕ)) → left ≡ L ∷ more → offer limit (bit_or K L) F ≡ o
+      → offers limit F (map (bit_or K) left) ≡ bind o (λ R. offers limit R (map (bit_or K) more))
+  row_from F K left more L o front e = offers_from F (map (bit_or K) left) (map (bit_or K) more) (bit_or K L) o (ap (map (bit_or K)) front) e
 
-  pub row_end : (F : List ℕ) (K : ℕ) (xs : List EffectSet) (i : ℕ) → length xs ≤ i → offers limit F (map (bit_or K) (drop i (masks xs))) ≡ Some F
-  row_end F K xs i h = ap (λ l. offers limit F (map (bit_or K) l)) (masks_end xs i h)
+  pub row_end : (F : List ℕ) (K : ℕ) (left : List ℕ) → left ≡ [] → offers limit F (map (bit_or K) left) ≡ Some F
+  row_end F K left none = offers_end F (map (bit_or K) left) (ap (map (bit_or K)) none)
 
-  pub unions_from : (F : List ℕ) (xs : List EffectSet) (G : List ℕ) (i : ℕ) (o : Option (List ℕ)) → i < length xs → offers limit F (map (bit_or (mask (get_or xs i (record { bits = 0 })))) G) ≡ o
-      → offers limit F (unions (drop i (masks xs)) G) ≡ bind o (λ R. offers limit R (unions (drop (i + 1) (masks xs)) G))
-  unions_from F xs G i o h e =
-      ap (λ l. offers limit F (unions l G)) (masks_from xs i h)
-      ∙ offers_append F (map (bit_or (mask (get_or xs i (record { bits = 0 })))) G) (unions (drop (i + 1) (masks xs)) G)
-      ∙ ap (λ o. bind o (λ R. offers limit R (unions (drop (i + 1) (masks xs)) G))) e
+  pub unions_from : (F left more G : List ℕ) (K : ℕ) (o : Option (List ℕ)) → left ≡ K ∷ more → offers limit F (map (bit_or K) G) ≡ o
+      → offers limit F (unions left G) ≡ bind o (λ R. offers limit R (unions more G))
+  unions_from F left more G K o front e =
+      ap (λ l. offers limit F (unions l G)) front
+      ∙ offers_append F (map (bit_or K) G) (unions more G)
+      ∙ ap (λ o. bind o (λ R. offers limit R (unions more G))) e
 
-  pub unions_end : (F : List ℕ) (xs : List EffectSet) (G : List ℕ) (i : ℕ) → length xs ≤ i → offers limit F (unions (drop i (masks xs)) G) ≡ Some F
-  unions_end F xs G i h = ap (λ l. offers limit F (unions l G)) (masks_end xs i h)
+  pub unions_end : (F left G : List ℕ) → left ≡ [] → offers limit F (unions left G) ≡ Some F
+  unions_end F left G none = ap (λ l. offers limit F (unions l G)) none
 
 -- ---- what was offered stays: a list that has a clause, or is offered one, has one after
 
@@ -85,7 +78,19 @@ pub unions-some : (F G : List ℕ) → 1 ≤ length F → 1 ≤ length G → 1 �
 unions-some [] G f g = absurd (omega arith)
 unions-some (K ∷ F) G f g = omega (arith, length-append (map (bit_or K) G) (unions F G), length-map G (bit_or K))
 
--- ---- answers of the code
+-- ---- answers of the code that are errors
+
+pub on_err : {A E P : Type 0} (r : Result A E) → P → OnErr r P
+on_err (Ok a) p = tt
+on_err (Err e) p = p
+
+pub never_ok : {A E : Type 0} (r : Result A E) (P : Type 0) → is_err r ≡ true → OnOk r P
+never_ok (Ok a) P h = absurd (false≢true h)
+never_ok (Err e) P h = tt
+
+pub offer_err : (C : ℕ) (F : List ℕ) (r : Result (Unit {0}) Overflow) → is_err r ≡ true → offer 64 C F ≡ None → Offered C F F r
+offer_err C F (Ok u) e h = absurd (false≢true e)
+offer_err C F (Err x) e h = (h, refl)
 
 pub offered_err : (F Cs G : List ℕ) (r : Result (Unit {0}) Overflow) → is_err r ≡ true → offers 64 F Cs ≡ None → OfferedAll F Cs G r
 offered_err F Cs G (Ok u) e h = absurd (false≢true e)

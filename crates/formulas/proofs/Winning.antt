@@ -44,6 +44,11 @@ module _ (t : Table) (m : Monoid t) where
     winning-lt A (Command c ∷ s) h = before_lt (table_command t c) (winning t φ A s)
     winning-lt A (Procedure x ∷ s) h = number_lt (λ e. φ x (after_effect t (winning t φ A s) e)) t.count
 
+    -- in front of no symbols, the set itself
+    pub winning-none : (A : ℕ) (s : List Symbol) → length s ≡ 0 → winning t φ A s ≡ A
+    winning-none A [] e = refl
+    winning-none A (x ∷ s) e = absurd (omega arith)
+
     pub winning-append : (A : ℕ) (s z : List Symbol) → winning t φ A (s ++ z) ≡ winning t φ (winning t φ A z) s
     winning-append A [] z = refl
     winning-append A (Command c ∷ s) z = ap (before_command t (table_command t c)) (winning-append A s z)
@@ -141,14 +146,3 @@ module _ (t : Table) (m : Monoid t) where
     body_says [] = λ A. ap (λ b. b && true) (hits_one (has A) 0) ∙ and-true (has A 0)
     body_says (Command c ∷ s) = given_bind (body_formula limit t L s) (shift_by limit t (table_command t c)) (Says s) (Says (Command c ∷ s)) (body_says s) (by_command c s)
     body_says (Procedure x ∷ s) = given_bind (body_formula limit t L s) (then limit t (formula_at L x)) (Says s) (Says (Procedure x ∷ s)) (body_says s) (by_procedure x s)
-
--- ---- worked out from the end
-
-module _ (t : Table) (φ : Assignment) (A : ℕ) where
-  pub winning_more : (s : List Symbol) (i : ℕ) (d : Symbol) (W : ℕ) → 0 < i → i ≤ length s → W ≡ winning t φ A (drop i s) → before_symbol t φ (get_or s (i - 1) d) W ≡ winning t φ A (drop (i - 1) s)
-  winning_more s i d W p h e =
-      let n : i - 1 + 1 ≡ i = omega arith in
-      ap (before_symbol t φ (get_or s (i - 1) d)) e ∙ sym (ap (winning t φ A) (drop_more s (i - 1) d (omega arith) ∙ ap (λ k. get_or s (i - 1) d ∷ drop k s) n))
-
-  pub winning_end : (s : List Symbol) → A ≡ winning t φ A (drop (length s) s)
-  winning_end s = sym (ap (winning t φ A) (drop_all (length s) s (omega arith)))

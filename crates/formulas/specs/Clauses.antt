@@ -1,17 +1,15 @@
 -- Clauses that the code holds, by their numbers, and how an offer comes out.
-use Rattle.std.specs.Prelude.{◌≡◌, ℕ, ◌≤◌, Bool, true, false, ◌&&◌, ◌⊎◌, ◌↔◌, List, ◌∷◌, ◌++◌, length, take, drop, Some, None, Ok, Err, Result}
+use Rattle.std.specs.Prelude.{◌≡◌, ℕ, ◌≤◌, Bool, true, false, ◌&&◌, ◌⊎◌, ◌↔◌, List, ◌∷◌, ◌++◌, length, take, drop, Some, None, Ok, Err, Option, Result}
 use mathlib.Core.List.{Memᴰ}
+use Rattle.foundation.specs.Bounds.{items}
 use Rattle.foundation.specs.Sets.{within, hits}
 use Rattle.foundation.specs.Tests.{any}
 use Rattle.formulas.specs.declared.clauses.Clauses.{Clauses}
 use Rattle.formulas.specs.declared.fault.Overflow.{Overflow}
-use Rattle.formulas.specs.declared.clauses.offering.Spot.{Spot}
-use Rattle.formulas.specs.declared.clauses.offering.Spot.TheVariants.{Held, At}
 use Rattle.formulas.specs.Formulas.{meets, offer, offers, outside, placed}
-use Rattle.formulas.specs.Masks.{held}
 
 abbrev pub clause_list : Clauses → List ℕ
-clause_list c = held c.sets
+clause_list c = items c.sets
 
 -- C at the place i of F, without the clauses after it that contain C
 abbrev pub entering : ℕ → List ℕ → ℕ → List ℕ
@@ -24,9 +22,10 @@ pub record Stands (C : ℕ) (F : List ℕ) (i : ℕ) : Type 0 where
   pub front : outside C (take i F) ≡ take i F
   pub is : placed C (outside C F) ≡ entering C F i
 
-abbrev pub Spots : ℕ → List ℕ → Spot → Type 0
-Spots C F Held = any (λ K. within K C) F ≡ true
-Spots C F (At i) = Stands C F i
+-- where C stands in F; None where a clause of F lies within C, so that C says nothing new
+abbrev pub Spots : ℕ → List ℕ → Option ℕ → Type 0
+Spots C F None = any (λ K. within K C) F ≡ true
+Spots C F (Some i) = Stands C F i
 
 -- what is left of the clauses F where C was offered
 abbrev pub Offered : ℕ → List ℕ → List ℕ → Result (Unit {0}) Overflow → Type 0

@@ -4,7 +4,6 @@ pub mod Entries
 pub mod Equations
 pub mod FormulaViews
 pub mod Formulas
-pub mod Masks
 pub mod RecordForms
 pub mod Records
 pub mod Refusals

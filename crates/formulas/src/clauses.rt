@@ -1,8 +1,8 @@
 //! Clauses as they gather: smallest ones in rising order.
 ghost use Rattle.std.specs.Prelude.{◌≡◌, true, ⊤};
 ghost use Rattle.std.specs.List.Sorted.{IsStrictlyIncreasing};
+ghost use Rattle.foundation.specs.Bounds.{items};
 ghost use Rattle.formulas.specs.Formulas.{none_within};
-ghost use Rattle.formulas.specs.Masks.{held};
 
 use foundation::bounded::Bounded;
 use foundation::effect_set::EffectSet;
@@ -13,8 +13,8 @@ mod offering;
 /// 0 to 64 clauses, none within another, in rising order. Formulas are built in it.
 pub(crate) struct Clauses {
     sets: Bounded<EffectSet, 64>,
-    ghost rising: { IsStrictlyIncreasing (held sets) },
-    ghost apart: { none_within (held sets) ≡ true },
+    ghost rising: { IsStrictlyIncreasing (items sets) },
+    ghost apart: { none_within (items sets) ≡ true },
 }
 
 impl Clone for Clauses {

@@ -1,8 +1,9 @@
 //! Refusals: what was wrong, and how it is told outside, by number, layer and place.
-ghost use Rattle.std.specs.Prelude.{◌≡◌};
+ghost use Rattle.std.specs.Prelude.{◌≡◌, ⊤};
 ghost use Rattle.formulas.specs.Refusals.{records_refusal, solve_refusal};
 
 use crate::symbol::Procedure;
+use foundation::bounded::Full;
 use foundation::refusal::{Layer, Refusal};
 
 /// Why bytes were not read as a procedure set.
@@ -70,3 +71,11 @@ impl SolveFault {
 /// One clause more would stand in a formula than there is room for.
 #[derive(Clone, Copy)]
 pub struct Overflow;
+
+impl From<Full> for Overflow {
+    ghost from_gives = { λ _ _. ⊤ };
+
+    fn from(_: Full) -> Overflow {
+        Overflow
+    }
+}

@@ -1,13 +1,11 @@
 //! Winning sets: the effects after which the field wins a list of symbols.
-ghost use Rattle.std.specs.Prelude.{◌≡◌, ℕ, ◌^◌, ◌<◌, List, Some};
+ghost use Rattle.std.specs.Prelude.{◌≡◌, ℕ, Bool, ◌^◌, ◌<◌, List, Some};
 ghost use Rattle.foundation.specs.Bits.{has};
 ghost use Rattle.rules.specs.Surveys.{view};
-ghost use Rattle.rules.specs.Tables.{join_of};
 ghost use Rattle.formulas.specs.Equations.{SettledLists, WonByTrees};
-ghost use Rattle.formulas.specs.Formulas.{meets};
-ghost use Rattle.formulas.specs.Masks.{masks};
+ghost use Rattle.formulas.specs.Formulas.{meets, leading};
 ghost use Rattle.formulas.specs.Symbols.{Entry};
-ghost use Rattle.formulas.specs.Winning.{assigned, after_effect, before_command, before_procedure, before_symbol, winning};
+ghost use Rattle.formulas.specs.Winning.{assigned, effects_where, after_effect, before_command, before_procedure, before_symbol, winning};
 
 use crate::symbol::{Procedure, Symbol};
 use foundation::effect_set::{EffectNumber, EffectSet};
@@ -19,61 +17,52 @@ pub trait ClauseLists {
 
     /// Whether every clause of a procedure has a member in the set.
     fn all_meet(&self, p: Procedure, set: EffectSet) -> bool
-        ensures { result ≡ meets (has set.bits) (lists self.now p) };
+        ensures { result ≡ meets (has set) (lists self.now p) };
 }
 
 /// Whether every clause has a member in the set.
 pub(crate) fn each_meets(clauses: &[EffectSet], set: EffectSet) -> bool
-    ensures { result ≡ meets (has set.bits) (masks clauses.now) }
+    ensures { result ≡ meets (has set) clauses.now }
 {
-    for clause in clauses {
-        if !clause.meets(set) {
-            return false;
+    clauses.iter().all(|clause| clause.meets(set))
+}
+
+/// The effects of a table that pass a test.
+fn effects_where<F: Fn(EffectNumber) -> bool>(table: &EffectTable, passes: F) -> EffectSet
+    requires { (k : ℕ) → k < (view table.now).count → F.pre passes k }
+    ensures { (f : ℕ → Bool) → ((k : ℕ) → k < (view table.now).count → (r : Bool) → F.post passes k r → r ≡ f k) → result ≡ effects_where (view table.now) f }
+{
+    let mut passing = EffectSet::empty();
+    for i in 0..table.effects() {
+        let k = i as EffectNumber;
+        if passes(k) {
+            passing = passing.with(k);
         }
     }
-    true
+    passing
 }
 
 /// Whether the effect `e` and then `k` lead into the set.
 fn leads(table: &EffectTable, e: EffectNumber, k: EffectNumber, set: EffectSet) -> bool
-    requires before { e < (view table.now).count }
-    requires after { k < (view table.now).count }
-    ensures { result ≡ has set.bits (join_of (view table.now) e k) }
+    ensures { result ≡ leading (view table.now) (has set) e k }
 {
-    match table.join(e, k) {
-        Some(join) => set.contains(join),
-        None => unreachable(),
-    }
+    table.join(e, k).is_some_and(|join| set.contains(join))
 }
 
 /// The effects that lead into the set after `e`.
 fn after(table: &EffectTable, e: EffectNumber, set: EffectSet) -> EffectSet
     requires { e < (view table.now).count }
-    ensures { result.bits ≡ after_effect (view table.now) set.bits e }
+    ensures { result ≡ after_effect (view table.now) set e }
 {
-    let mut leading = EffectSet::empty();
-    for i in 0..table.effects() {
-        let k = i as EffectNumber;
-        if leads(table, e, k, set) {
-            leading = leading.with(k);
-        }
-    }
-    leading
+    effects_where(table, |k| leads(table, e, k, set))
 }
 
 /// The effects after which `k` leads into the set.
 fn before(table: &EffectTable, k: EffectNumber, set: EffectSet) -> EffectSet
     requires { k < (view table.now).count }
-    ensures { result.bits ≡ before_command (view table.now) (Some k) set.bits }
+    ensures { result ≡ before_command (view table.now) (Some k) set }
 {
-    let mut leading = EffectSet::empty();
-    for i in 0..table.effects() {
-        let e = i as EffectNumber;
-        if leads(table, e, k, set) {
-            leading = leading.with(e);
-        }
-    }
-    leading
+    effects_where(table, |e| leads(table, e, k, set))
 }
 
 /// The effects after which the field wins a procedure and comes into the set.
@@ -83,16 +72,9 @@ fn winning_before<L: ClauseLists>(
     p: Procedure,
     set: EffectSet,
 ) -> EffectSet
-    ensures { result.bits ≡ before_procedure (view table.now) (assigned (L.ClauseLists.lists lists.now) p) set.bits }
+    ensures { result ≡ before_procedure (view table.now) (assigned (L.ClauseLists.lists lists.now) p) set }
 {
-    let mut winning = EffectSet::empty();
-    for i in 0..table.effects() {
-        let e = i as EffectNumber;
-        if lists.all_meet(p, after(table, e, set)) {
-            winning = winning.with(e);
-        }
-    }
-    winning
+    effects_where(table, |e| lists.all_meet(p, after(table, e, set)))
 }
 
 fn before_symbol<L: ClauseLists>(
@@ -101,7 +83,7 @@ fn before_symbol<L: ClauseLists>(
     symbol: Symbol,
     set: EffectSet,
 ) -> EffectSet
-    ensures { result.bits ≡ before_symbol (view table.now) (assigned (L.ClauseLists.lists lists.now)) symbol set.bits }
+    ensures { result ≡ before_symbol (view table.now) (assigned (L.ClauseLists.lists lists.now)) symbol set }
 {
     match symbol {
         Symbol::Command(c) => match table.command(c) {
@@ -119,14 +101,12 @@ pub fn winning_set<L: ClauseLists>(
     target: EffectSet,
     list: &[Symbol],
 ) -> EffectSet
-    ensures value { result.bits ≡ winning (view table.now) (assigned (L.ClauseLists.lists lists.now)) target.bits list.now }
-    ensures trees { (rs : List Entry) → SettledLists rs (view table.now) (L.ClauseLists.lists lists.now) → target.bits < 2 ^ (view table.now).count → WonByTrees rs (view table.now) target.bits list.now result.bits }
+    ensures value { result ≡ winning (view table.now) (assigned (L.ClauseLists.lists lists.now)) target list.now }
+    ensures trees { (rs : List Entry) → SettledLists rs (view table.now) (L.ClauseLists.lists lists.now) → target < 2 ^ (view table.now).count → WonByTrees rs (view table.now) target list.now result }
 {
     let mut winning = target;
-    let mut i = list.len();
-    while i > 0 {
-        i -= 1;
-        winning = before_symbol(table, lists, list[i], winning);
+    for symbol in list.iter().rev() {
+        winning = before_symbol(table, lists, *symbol, winning);
     }
     winning
 }

@@ -2,7 +2,6 @@
 ghost use Rattle.std.specs.Prelude.{◌≡◌, IfOk, nat_eq};
 ghost use Rattle.formulas.specs.Formulas.{both, either, impossible, neutral};
 ghost use Rattle.formulas.specs.FormulaViews.{formula_list, found, And, Or, ToldApart};
-ghost use Rattle.formulas.specs.Masks.{masks};
 ghost use Rattle.std.specs.Cmp.Rules.{comparing};
 ghost use Rattle.std.specs.Cmp.Lexicographic.{pointwise};
 ghost use Rattle.std.specs.Ordering.{on};
@@ -33,7 +32,7 @@ impl Formula {
     }
 
     pub fn clauses(&self) -> &[EffectSet]
-        ensures { masks result.now ≡ formula_list self.now }
+        ensures { result.now ≡ formula_list self.now }
     {
         self.clauses.as_slice()
     }
@@ -53,21 +52,15 @@ impl Formula {
         ensures value { found result ≡ either 64 (formula_list self.now) (formula_list other.now) }
         ensures means { IfOk result (λ f. Or (formula_list self.now) (formula_list other.now) (formula_list f)) }
     {
-        let ours = self.clauses();
-        let theirs = other.clauses();
         let mut clauses = Clauses::none();
-        let mut full = false;
-        'unions: for k in ours {
-            for l in theirs {
-                let Ok(()) = clauses.offer(k.union(*l)) else {
-                    full = true;
-                    break 'unions;
-                };
+        'unions: {
+            for k in self.clauses() {
+                for l in other.clauses() {
+                    if let Err(overflow) = clauses.offer(k.union(*l)) {
+                        break 'unions Err(overflow);
+                    }
+                }
             }
-        }
-        if full {
-            Err(Overflow)
-        } else {
             Ok(Formula { clauses })
         }
     }

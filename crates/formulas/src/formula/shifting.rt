@@ -15,15 +15,10 @@ use rules::table::EffectTable;
 
 /// The joins of `e` with the members of a clause.
 fn joins(table: &EffectTable, e: EffectNumber, clause: EffectSet) -> EffectSet
-    ensures { result.bits ≡ joined (view table.now) e clause.bits }
+    ensures { result ≡ joined (view table.now) e clause }
 {
     let mut joined = EffectSet::empty();
-    let mut rest = clause;
-    for _ in 0..clause.len() {
-        let Some(member) = rest.first() else {
-            unreachable()
-        };
-        rest = rest.without_first();
+    for member in clause {
         if let Some(join) = table.join(e, member) {
             joined = joined.with(join);
         }
@@ -46,13 +41,10 @@ impl Formula {
 
     /// The formula after whichever of the effects the field takes.
     fn after_one_of(&self, table: &EffectTable, effects: EffectSet) -> Result<Formula, Overflow>
-        ensures { found result ≡ or_after 64 (view table.now) (formula_list self.now) impossible (members effects.bits) }
+        ensures { found result ≡ or_after 64 (view table.now) (formula_list self.now) impossible (members effects) }
     {
         let mut after = Formula::impossible();
-        let mut rest = effects;
-        for _ in 0..effects.len() {
-            let Some(e) = rest.first() else { unreachable() };
-            rest = rest.without_first();
+        for e in effects {
             if usize::from(e) < table.effects() {
                 let shifted = self.shift(table, e)?;
                 after = after.either(&shifted)?;

@@ -1,21 +1,13 @@
-use Rattle.std.proofs.Common.{sym, refl, ◌∙◌}
+use Rattle.std.proofs.Common.{rules}
+use Rattle.std.proofs.lemmas.Iterator.{YieldsList-from_slice}
+use Rattle.std.proofs.lemmas.Iterator.Search.{all_from_yields_List}
+use borrow.Author.Tests.{tests}
 use Rattle.foundation.specs.Bits.{has}
 use Rattle.foundation.specs.Sets.{hits}
-use Rattle.foundation.specs.Laws.Tests.{all_map}
-use Rattle.formulas.specs.Masks.{mask}
-use Rattle.formulas.proofs.Searches.{passing_more, passing_stop, passing_end}
+use Rattle.formulas.proofs.Searches.{all_from}
 use Rattle.formulas.proofs.winning_set.each_meets.Goals as goal
-
-pub loop-clause-preserved : goal.loop-clause-preserved
-loop-clause-preserved c =
-    passing_more (λ x. hits (has c.args.set.bits) (mask x)) c.args.clauses.now c.loop-clause.clause-index _ _ c.loop-clause-test.true refl (sym c.if-not-meets.ensures) c.loop-clause.invariant
-
-pub returns-then-not-meets : goal.returns-then-not-meets
-returns-then-not-meets c =
-    passing_stop (λ x. hits (has c.args.set.bits) (mask x)) c.args.clauses.now c.loop-clause.clause-index _ _ c.loop-clause-test.true refl (sym c.if-not-meets.ensures) c.loop-clause.invariant
-    ∙ sym (all_map (hits (has c.args.set.bits)) mask c.args.clauses.now)
 
 pub returns : goal.returns
 returns c =
-    passing_end (λ x. hits (has c.args.set.bits) (mask x)) c.args.clauses.now c.loop-clause.clause-index c.loop-clause-test.false c.loop-clause.invariant
-    ∙ sym (all_map (hits (has c.args.set.bits)) mask c.args.clauses.now)
+    let good = hits (has c.args.set) in
+    all_from good c.args.clauses.now c.all.result (all_from_yields_List good _ _ c.all.result c.all.ensures.ran (YieldsList-from_slice c.args.clauses.now cc) (λ x b q k. search (rules, tests)))

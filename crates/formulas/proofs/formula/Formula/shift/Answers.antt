@@ -1,13 +1,13 @@
 use Rattle.std.proofs.Common.{◌≡◌, ◌≤◌, [], map, length, Some, None, sym, ap, ◌∙◌, arith}
-use Rattle.std.proofs.lemmas.List.{length-map}
+use Rattle.std.proofs.lemmas.List.{length-map, drop_all}
 use Rattle.rules.specs.Surveys.{view}
 use Rattle.formulas.specs.Clauses.{clause_list}
 use Rattle.formulas.specs.Formulas.{meets, leading, offer, offers, joined}
 use Rattle.formulas.specs.FormulaViews.{formula_list}
 use Rattle.formulas.proofs.Given.{given_some}
 use Rattle.formulas.proofs.Meets.{shift-meets}
-use Rattle.formulas.proofs.Offers.{offers_some}
-use Rattle.formulas.proofs.Shifting.{shift_from, shift_end, err_found, err_means}
+use Rattle.formulas.proofs.Offers.{drop_item, offers_end, offers_some}
+use Rattle.formulas.proofs.Shifting.{shift_from, err_found, err_means}
 use Rattle.formulas.proofs.formula.Formula.shift.Goals as goal
 use Rattle.formulas.proofs.formula.Formula.shift.Goals.{After-loop-clause}
 
@@ -20,7 +20,7 @@ returns-in_err-offer c =
     record {
       value = err_found c.from_residual.result bad
           ∙ sym (ap (λ F. offers 64 [] (map (joined t e) F)) (sym c.clauses-clause-items.ensures) ∙ sym c.loop-clause.invariant
-          ∙ shift_from 64 t [] e old c.clauses-clause-items.result.now c.loop-clause.clause-index None c.loop-clause-test.true (ap (λ C. offer 64 C old) (sym c.joins.ensures) ∙ c.in_err-offer.ensures.value.0));
+          ∙ shift_from 64 t [] e old _ _ c.clause-item.result None (drop_item c.clauses-clause-items.result.now c.loop-clause.clause-index c.clause-item.result c.loop-clause-test.true c.clause-item.is) (ap (λ C. offer 64 C old) (sym c.joins.ensures) ∙ c.in_err-offer.ensures.value.0));
       means = err_means c.from_residual.result _ bad;
     }
 
@@ -28,14 +28,14 @@ pub loop-clause-preserved : goal.loop-clause-preserved
 loop-clause-preserved c =
     let t = view c.args.table.now in
     let old = clause_list c.loop-clause.clauses in
-    sym (shift_from 64 t [] c.args.e old c.clauses-clause-items.result.now c.loop-clause.clause-index (Some (clause_list c.offer.new.self)) c.loop-clause-test.true
+    sym (shift_from 64 t [] c.args.e old _ _ c.clause-item.result (Some (clause_list c.offer.new.self)) (drop_item c.clauses-clause-items.result.now c.loop-clause.clause-index c.clause-item.result c.loop-clause-test.true c.clause-item.is)
     (ap (λ C. offer 64 C old) (sym c.joins.ensures) ∙ c.in_ok-offer.ensures.value)) ∙ c.loop-clause.invariant
 
 made : (c : goal.After-loop-clause) → offers 64 [] (map (joined (view c.args.table.now) c.args.e) (formula_list c.args.self.now)) ≡ Some (clause_list c.loop-clause.clauses)
 made c =
     let t = view c.args.table.now in
     ap (λ F. offers 64 [] (map (joined t c.args.e) F)) (sym c.clauses-clause-items.ensures) ∙ sym c.loop-clause.invariant
-    ∙ shift_end 64 t [] c.args.e (clause_list c.loop-clause.clauses) c.clauses-clause-items.result.now c.loop-clause.clause-index c.loop-clause-test.false
+    ∙ offers_end 64 (clause_list c.loop-clause.clauses) _ (ap (map (joined t c.args.e)) (drop_all c.loop-clause.clause-index c.clauses-clause-items.result.now c.loop-clause-test.false))
 
 pub invariant_of-result : goal.invariant_of-result
 invariant_of-result c =

@@ -1,39 +1,25 @@
-use Rattle.std.proofs.Common.{◌≡◌, ◌+◌, ◌<◌, length, drop, sym, refl, ap, ◌∙◌, subst, arith}
+use Rattle.std.proofs.Common.{ap, ◌∙◌}
 use lib.Bits.{bit_or, or_zero_l}
 use Rattle.foundation.specs.Sets.{members, gathered}
 use Rattle.rules.specs.Surveys.{view}
 use Rattle.formulas.specs.Formulas.{joins, joined}
-use Rattle.formulas.proofs.Shifting.{picked_none, picked_is, picked_rest, joins_no, joins_yes, joins-all}
+use Rattle.formulas.proofs.Shifting.{joins_no, joins_yes, joins-all}
 use Rattle.formulas.proofs.formula.shifting.joins.Goals as goal
-use Rattle.formulas.proofs.formula.shifting.joins.Goals.{in-Some-join, in_default-join}
 
-pub loop-init : goal.loop-init
-loop-init c =
-    let rest = gathered (joins (view c.args.table.now) c.args.e (members c.args.clause.bits)) in
-    (refl, ap (λ x. bit_or x rest) c.empty-joined.ensures.value ∙ or_zero_l rest)
+pub loop-member-init : goal.loop-member-init
+loop-member-init c =
+    let t = view c.args.table.now in
+    let rest = gathered (joins t c.args.e (members c.into_iter-member-iterator.result)) in
+    ap (λ x. bit_or x rest) c.empty-joined.ensures.value ∙ or_zero_l rest ∙ ap (joined t c.args.e) c.into_iter-member-iterator.ensures.into_iter_gives.0
 
-pub unreachable-requires : goal.unreachable-requires
-unreachable-requires c =
-    picked_none c.args.clause.bits c.loop.rest.bits c.loop.counter c.loop.invariant.0 (omega (arith, c.loop-test.true, c.len-end.ensures.listed)) c.in_default.ensures.listed
+pub loop-member-preserved : goal.loop-member-preserved
+loop-member-preserved c =
+    joins_no c.args.table.now c.args.e c.args.clause c.loop-member.joined c.in-Some.member _ (members c.next.new.self) c.in-Some.ensures.steps c.loop-member.invariant c.in_default.ensures
 
-pub loop-preserved : goal.loop-preserved
-loop-preserved c =
-    let t = c.args.table.now in
-    let e = c.args.e in
-    let K = c.args.clause.bits in
-    let i = c.loop.counter in
-    let h : i < length (members K) = omega (arith, c.loop-test.true, c.len-end.ensures.listed) in
-    let is = picked_is K c.loop.rest.bits i c.loop.invariant.0 h c.in-Some.member c.in-Some.ensures.listed in (
-      picked_rest K c.loop.rest.bits i c.loop.invariant.0 h c.without_first-rest.result.bits c.without_first-rest.ensures.listed,
-      elim c.match-join.branch [
-        | in-Some-join w ↦
-            subst (λ x. bit_or x.bits (gathered (joins (view t) e (drop (i + 1) (members K)))) ≡ joined (view t) e K) (sym w.joined-is)
-            (joins_yes t e K i c.loop.joined.bits h c.loop.invariant.1 c.in-Some.member w.in-Some-join.join w.with-joined.result.bits is w.in-Some-join.ensures w.with-joined.ensures.value)
-        | in_default-join w ↦
-            subst (λ x. bit_or x.bits (gathered (joins (view t) e (drop (i + 1) (members K)))) ≡ joined (view t) e K) (sym w.joined-is)
-            (joins_no t e K i c.loop.joined.bits h c.loop.invariant.1 c.in-Some.member is w.in_default-join.ensures)
-      ],
-    )
+pub loop-member-preserved-in-Some-join : goal.loop-member-preserved-in-Some-join
+loop-member-preserved-in-Some-join c =
+    joins_yes c.args.table.now c.args.e c.args.clause c.loop-member.joined c.in-Some.member _ (members c.next.new.self) c.in-Some.ensures.steps c.loop-member.invariant
+    c.in-Some-join.join c.with-joined.result c.in-Some-join.ensures c.with-joined.ensures.value
 
 pub returns : goal.returns
-returns c = joins-all (view c.args.table.now) c.args.e c.args.clause.bits c.loop.counter c.loop.joined.bits (omega (arith, c.loop-test.false, c.len-end.ensures.listed)) c.loop.invariant.1
+returns c = joins-all (view c.args.table.now) c.args.e c.args.clause c.loop-member.joined _ c.in-None.ensures.steps.0 c.loop-member.invariant
