@@ -26,7 +26,7 @@ unreachable-requires c =
     let before = c.loop-i.invariant in
     let step = c.in-Some.ensures.steps in
     let there = cut_there c.args.bytes.now (chunks_exact_rest (enumerate_source c.loop-i.i-iterator)) (chunks_exact_rest (enumerate_source c.next.new.self)) c.in-Some.piece.now
-            (enumerate_count c.loop-i.i-iterator) before.cut step.0.1.0 (step.0.1.1 ∙ before.size) in
+    (enumerate_count c.loop-i.i-iterator) before.cut step.0.1.0 (step.0.1.1 ∙ before.size) in
     false≢true (c.in_default.ensures.room.1 (omega (arith, before.counted, there, c.if-whole-gt-MOST_RECORDS.false)))
 
 pub loop-i-preserved : goal.loop-i-preserved
