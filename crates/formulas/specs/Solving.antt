@@ -1,5 +1,5 @@
 -- Solving: rounds until one is equal to the one before it.
-use Rattle.std.specs.Prelude.{◌≡◌, ℕ, zero, suc, ◌+◌, ◌<◌, ◌≤◌, Bool, true, cond, ◌&&◌, List, Some, None, Ok, Err, Option, Result, ◌≢◌, nat_le, nat_lt}
+use Rattle.std.specs.Prelude.{◌≡◌, ℕ, zero, suc, ◌+◌, ◌<◌, ◌≤◌, Bool, true, ◌&&◌, List, Some, None, Ok, Err, Option, Result, ◌≢◌, nat_le, nat_lt, if◌then◌else◌}
 use mathlib.Core.List.{Memᴰ}
 use Rattle.std.specs.Cmp.Lexicographic.{pointwise}
 use Rattle.std.specs.List.{slice_get}
@@ -28,7 +28,7 @@ same_rounds = pointwise bytes_eq
 -- the round after round k, which is L: the answer if the two are equal, else on to the next one
 abbrev pub settle_on : Result (List (List ℕ)) ℕ → List (List ℕ) → ℕ → (List (List ℕ) → Result Settled SolveFault) → Result Settled SolveFault
 settle_on (Err x) L k on = Err (TooManyClauses x)
-settle_on (Ok M) L k on = cond (same_rounds M L) (Ok (record { number = k + 1; formulas = M })) (on M)
+settle_on (Ok M) L k on = if same_rounds M L then Ok (record { number = k + 1; formulas = M }) else on M
 
 -- a command of a rule with n commands, or a procedure
 abbrev pub known : ℕ → Symbol → Bool
@@ -50,7 +50,7 @@ module _ (rs : List Entry) (t : Table) where
   settle (suc n) k L = settle_on (next_round 64 rs t L) L k (settle n (k + 1))
 
   abbrev pub solved : ℕ → Result Settled SolveFault
-  solved allowance = cond (nat_lt 0 allowance && nat_le allowance 1000) (unless_lacking (first_bad (known_body t.commands) 0 rs) (settle allowance 0 first_round)) (Err Allowance)
+  solved allowance = if nat_lt 0 allowance && nat_le allowance 1000 then unless_lacking (first_bad (known_body t.commands) 0 rs) (settle allowance 0 first_round) else Err Allowance
 
   -- ---- in words
 

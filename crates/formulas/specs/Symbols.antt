@@ -1,5 +1,5 @@
 -- Procedure sets as lists of records.
-use Rattle.std.specs.Prelude.{◌≡◌, ℕ, ◌<◌, ◌≤◌, Bool, cond, List, [], ◌∷◌, length, Some, None, Option, ◌==◌, nat_lt}
+use Rattle.std.specs.Prelude.{◌≡◌, ℕ, ◌<◌, ◌≤◌, Bool, List, [], ◌∷◌, length, Some, None, Option, ◌==◌, nat_lt, if◌then◌else◌}
 use mathlib.Core.List.{Memᴰ}
 use Rattle.std.specs.List.{AllByRecursion}
 use Rattle.formulas.specs.declared.symbol.Owner.{Owner}
@@ -48,9 +48,9 @@ Named rs = (r : Entry) (x : ℕ) → Memᴰ r rs → Memᴰ (Procedure x) r.body
 -- the bodies of x, by the number of their records
 abbrev pub bodies : List Entry → ℕ → List (List Symbol)
 bodies [] x = []
-bodies (r ∷ rs) x = cond (r.procedure == x) (r.body ∷ bodies rs x) (bodies rs x)
+bodies (r ∷ rs) x = if r.procedure == x then r.body ∷ bodies rs x else bodies rs x
 
 -- the side of x, by its first record; None where it has no record
 abbrev pub owner_of : List Entry → ℕ → Option Owner
 owner_of [] x = None
-owner_of (r ∷ rs) x = cond (r.procedure == x) (Some r.owner) (owner_of rs x)
+owner_of (r ∷ rs) x = if r.procedure == x then Some r.owner else owner_of rs x
