@@ -23,10 +23,11 @@ impl ProcedureSet {
         ensures only { (x : Result (List Entry) RecordsFault) → Read bytes.now x → x ≡ viewed result }
     {
         let records = read_records(bytes)?;
-        if let Some(i) = first_stray(records.as_slice()) {
+        let list = records.as_slice();
+        if let Some(i) = first_stray(list) {
             return Err(RecordsFault::Owner(i));
         }
-        if let Some(i) = first_unrecorded(records.as_slice()) {
+        if let Some(i) = first_unrecorded(list) {
             return Err(RecordsFault::Unrecorded(i));
         }
         Ok(ProcedureSet { records })
