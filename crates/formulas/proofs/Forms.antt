@@ -94,9 +94,9 @@ module _ (bs : List ℕ) where
     fill_part : fill ≡ fill_bytes bs
     fill_part = back ∙ ap₂ drop is (take_rest bs 3) ∙ drop-drop (get_or bs 2 0) 3 bs
 
-    pub entry_read : (o : Owner) (ss : List Symbol) → length bs ≡ 12 → get_or bs 0 0 < 32 → get_or bs 2 0 ≤ 9
+    pub entry_read : (o : Owner) (ss : List Symbol) → length bs ≡ 12 → get_or bs 0 0 < 32 → n ≤ 9
         → true ≡ all (λ b. eqb b 255) fill → Some o ≡ owner_in (get_or bs 1 0) → Some ss ≡ symbols_in body
         → Some (record { procedure = get_or bs 0 0; owner = o; body = ss }) ≡ entry_in bs
     entry_read o ss len p l f w b =
         ap (λ x. entry_from bs x (Some ss)) w ∙ ap (entry_from bs (owner_in (get_or bs 1 0))) (b ∙ ap symbols_in body_part)
-        ∙ entry_framed (framed_from len p l (sym (f ∙ ap (all (λ b. eqb b 255)) fill_part)))
+        ∙ entry_framed (framed_from len p (omega (arith, is, l)) (sym (f ∙ ap (all (λ b. eqb b 255)) fill_part)))

@@ -202,47 +202,42 @@ records_say bytes rs = go (whole bytes) refl (first_bad formed 0 (pieces bytes))
 
 -- ---- the steps of the code
 
--- the answer r, in both ways
-pub record Answers (bytes : List ℕ) (r : Result (List Entry) RecordsFault) : Type 0 where
-  pub value : r ≡ read_set bytes
-  pub words : Read bytes r
-
-answers_from : (bytes : List ℕ) (r : Result (List Entry) RecordsFault) → r ≡ read_set bytes → Answers bytes r
-answers_from bytes r e = record { value = e; words = subst (Read bytes) (sym e) (read_set_reads bytes) }
-
 module _ (bytes : List ℕ) where
-  pub refused_early : (r : Result (List Entry) RecordsFault) (f : RecordsFault) → r ≡ Err f → Err f ≡ read_records bytes → Answers bytes r
-  refused_early r f e h = answers_from bytes r (e ∙ ap (λ x. bind_ok x checked) h)
+  pub refused_early : (r : Result (List Entry) RecordsFault) (f : RecordsFault) → r ≡ Err f → Err f ≡ read_records bytes → r ≡ read_set bytes
+  refused_early r f e h = e ∙ ap (λ x. bind_ok x checked) h
 
-  -- the records that the first pass gave, as a slice that the other passes look at
-  module _ (rs part : List Entry) (ok : Ok rs ≡ read_records bytes) where
+  -- the records that the first pass gave, as the slice that the other passes look at
+  module _ (rs part : List Entry) (ok : Ok rs ≡ read_records bytes) (e : part ≡ rs) where
     checked_is : checked rs ≡ read_set bytes
     checked_is = ap (λ x. bind_ok x checked) ok
 
-    strays_in : (o : Option ℕ) → part ≡ rs → o ≡ first_bad (agreed part) 0 part → o ≡ first_bad (agreed rs) 0 rs
-    strays_in o e h = h ∙ ap (λ l. first_bad (agreed l) 0 l) e
+    strays_in : (o : Option ℕ) → o ≡ first_bad (agreed part) 0 part → o ≡ first_bad (agreed rs) 0 rs
+    strays_in o h = h ∙ ap (λ l. first_bad (agreed l) 0 l) e
 
-    pub refused_owner : (n : ℕ) → part ≡ rs → Some n ≡ first_bad (agreed part) 0 part → Answers bytes (Err (Stray n))
-    refused_owner n e h = answers_from bytes (Err (Stray n)) (ap (λ o. unless Stray o (unless Unrecorded (first_bad (bodied rs) 0 rs) (Ok rs))) (strays_in (Some n) e h) ∙ checked_is)
+    pub refused_owner : (n : ℕ) → Some n ≡ first_bad (agreed part) 0 part → Err (Stray n) ≡ read_set bytes
+    refused_owner n h = ap (λ o. unless Stray o (unless Unrecorded (first_bad (bodied rs) 0 rs) (Ok rs))) (strays_in (Some n) h) ∙ checked_is
 
-    module _ (part' : List Entry) (e : part ≡ rs) (e' : part' ≡ rs) (agree : None ≡ first_bad (agreed part) 0 part) where
-      owners_passed : (o : Option ℕ) → o ≡ first_bad (bodied part') 0 part' → unless Unrecorded o (Ok rs) ≡ read_set bytes
+    module _ (agree : None ≡ first_bad (agreed part) 0 part) where
+      lacks_in : (o : Option ℕ) → o ≡ first_bad (bodied part) 0 part → o ≡ first_bad (bodied rs) 0 rs
+      lacks_in o h = h ∙ ap (λ l. first_bad (bodied l) 0 l) e
+
+      owners_passed : (o : Option ℕ) → o ≡ first_bad (bodied part) 0 part → unless Unrecorded o (Ok rs) ≡ read_set bytes
       owners_passed o h =
-          ap (λ x. unless Unrecorded x (Ok rs)) (h ∙ ap (λ l. first_bad (bodied l) 0 l) e')
-          ∙ ap (λ x. unless Stray x (unless Unrecorded (first_bad (bodied rs) 0 rs) (Ok rs))) (strays_in None e agree) ∙ checked_is
+          ap (λ x. unless Unrecorded x (Ok rs)) (lacks_in o h)
+          ∙ ap (λ x. unless Stray x (unless Unrecorded (first_bad (bodied rs) 0 rs) (Ok rs))) (strays_in None agree) ∙ checked_is
 
-      pub refused_body : (n : ℕ) → Some n ≡ first_bad (bodied part') 0 part' → Answers bytes (Err (Unrecorded n))
-      refused_body n h = answers_from bytes (Err (Unrecorded n)) (owners_passed (Some n) h)
+      pub refused_body : (n : ℕ) → Some n ≡ first_bad (bodied part) 0 part → Err (Unrecorded n) ≡ read_set bytes
+      refused_body n h = owners_passed (Some n) h
 
-      pub set_is_read : None ≡ first_bad (bodied part') 0 part' → Answers bytes (Ok rs)
-      set_is_read h = answers_from bytes (Ok rs) (owners_passed None h)
+      pub set_is_read : None ≡ first_bad (bodied part) 0 part → Ok rs ≡ read_set bytes
+      set_is_read h = owners_passed None h
 
       -- what a procedure set promises of its records
       pub set_some : 0 < length rs
       set_some = let s = records_say bytes rs ok in omega (arith, s.sized, s.count)
 
       pub set_agreed : all (agreed rs) rs ≡ true
-      set_agreed = none_bad (agreed rs) 0 rs (sym (strays_in None e agree))
+      set_agreed = none_bad (agreed rs) 0 rs (sym (strays_in None agree))
 
-      pub set_bodied : None ≡ first_bad (bodied part') 0 part' → all (bodied rs) rs ≡ true
-      set_bodied h = none_bad (bodied rs) 0 rs (sym (h ∙ ap (λ l. first_bad (bodied l) 0 l) e'))
+      pub set_bodied : None ≡ first_bad (bodied part) 0 part → all (bodied rs) rs ≡ true
+      set_bodied h = none_bad (bodied rs) 0 rs (sym (lacks_in None h))

@@ -15,7 +15,6 @@ pub mod Offering
 pub mod Offers
 pub mod OneAnswer
 pub mod Passes
-pub mod Pushes
 pub mod Records
 pub mod Rounds
 pub mod Searches

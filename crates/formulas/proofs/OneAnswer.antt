@@ -1,5 +1,5 @@
 -- The words fix the answer: what they allow is what reading by computing answers.
-use Rattle.std.proofs.Common.{◌≡◌, ℕ, zero, suc, ◌/◌, ◌<◌, ◌≤◌, Bool, true, false, List, [], ◌∷◌, length, is_some, Some, None, Ok, Err, Option, Result, sym, refl, ap, ◌∙◌, ⊎_elim, arith}
+use Rattle.std.proofs.Common.{◌≡◌, ℕ, zero, suc, ◌/◌, ◌<◌, ◌≤◌, Bool, true, false, List, [], ◌∷◌, length, is_some, Some, None, Ok, Err, Option, Result, sym, refl, ap, ◌∙◌, subst, ⊎_elim, arith}
 use mathlib.Core.List.{Memᴰ}
 use Rattle.std.specs.List.{slice_get}
 use Rattle.std.proofs.lemmas.Option.{slice_get_past}
@@ -17,7 +17,7 @@ use Rattle.formulas.specs.Records.{whole, pieces, unless, formed, said, checked,
 use Rattle.formulas.specs.Searches.{first_bad}
 use Rattle.formulas.specs.Steps.{bind_ok}
 use Rattle.formulas.specs.Symbols.{Entry, Agree, Named}
-use Rattle.formulas.proofs.InWords.{whole_fact, whole_test, piece_at, piece_is, has_form, said_nth, says_from, strays, strays_fails, lacks, lacks_fails}
+use Rattle.formulas.proofs.InWords.{whole_fact, whole_test, piece_at, piece_is, has_form, read_set_reads, said_nth, says_from, strays, strays_fails, lacks, lacks_fails}
 use Rattle.formulas.proofs.Records.{belongs_owner, member_nth, names_same, of_recorded}
 use Rattle.formulas.proofs.Searches.{first_found, none_from}
 use Rattle.formulas.proofs.WordForms.{form_read, read_form}
@@ -136,3 +136,8 @@ read_fixes bytes (Err (Stray n)) (rs, s, t, none) =
 read_fixes bytes (Err (Unrecorded n)) (rs, s, agree, l, none) =
     sym (ap (λ o. unless Stray o (unless Unrecorded (first_bad (bodied rs) 0 rs) (Ok rs))) (none_from (agreed rs) 0 rs (agree_passes rs agree))
     ∙ ap (λ o. unless Unrecorded o (Ok rs)) (first_lack rs n l none)) ∙ checked_set bytes rs s
+
+-- an answer, by computing, in words, and as the only one
+pub read_answer : (bytes : List ℕ) (r : Result (List Entry) RecordsFault) → r ≡ read_set bytes
+    → record { value : r ≡ read_set bytes; words : Read bytes r; only : (x : Result (List Entry) RecordsFault) → Read bytes x → x ≡ r }
+read_answer bytes r e = record { value = e; words = subst (Read bytes) (sym e) (read_set_reads bytes); only = λ x h. read_fixes bytes x h ∙ sym e }

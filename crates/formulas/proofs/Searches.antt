@@ -1,8 +1,7 @@
 -- Searches for the first of a list that fails a test: by std's words, and what was found.
-use Rattle.std.proofs.Common.{◌≡◌, ℕ, zero, suc, ◌+◌, ◌<◌, ◌≤◌, Bool, true, false, not, cond, ◌&&◌, List, [], ◌∷◌, map, length, get_or, drop, Some, None, Option, sym, refl, ap, ◌∙◌, subst, arith}
+use Rattle.std.proofs.Common.{◌≡◌, ℕ, zero, suc, ◌+◌, ◌<◌, Bool, true, false, not, cond, ◌&&◌, List, [], ◌∷◌, map, Some, None, Option, refl, ap, ◌∙◌, subst, arith}
 use Rattle.std.specs.List.{slice_get, list_all, position}
 use Rattle.std.proofs.lemmas.Iterator.Adapters.{position_from-zero}
-use Rattle.std.proofs.lemmas.List.{drop_more, drop_all}
 use Rattle.std.proofs.lemmas.Bool.{and_from, and_parts, cond-true, cond-false}
 use Rattle.foundation.specs.Tests.{all}
 use Rattle.formulas.specs.Searches.{first_bad}
@@ -23,24 +22,6 @@ first_bad-map good f i (x ∷ xs) = ap (cond (not (good (f x))) (Some i)) (first
 -- the first that fails, of what f makes of the list
 pub first_bad_from : {X Y : Type 0} (good : Y → Bool) (f : X → Y) (xs : List X) (r : Option ℕ) → r ≡ position (λ x. not (good (f x))) xs → r ≡ first_bad good 0 (map f xs)
 first_bad_from good f xs r e = e ∙ position_from-zero (λ x. not (good (f x))) xs ∙ first_bad-map good f 0 xs
-
--- ---- a loop that stops at the first that fails
-
-module _ {X : Type 0} (p : X → Bool) (xs : List X) where
-  abbrev pub Passing : ℕ → Type 0
-  Passing i = all p (drop i xs) ≡ all p xs
-
-  passing_step : (i : ℕ) (x d : X) → i < length xs → x ≡ get_or xs i d → Passing i → (p x && all p (drop (i + 1) xs)) ≡ all p xs
-  passing_step i x d h is at = ap (λ y. p y && all p (drop (i + 1) xs)) is ∙ sym (ap (all p) (drop_more xs i d h)) ∙ at
-
-  pub passing_more : (i : ℕ) (x d : X) → i < length xs → x ≡ get_or xs i d → p x ≡ true → Passing i → Passing (i + 1)
-  passing_more i x d h is t at = ap (λ b. b && all p (drop (i + 1) xs)) (sym t) ∙ passing_step i x d h is at
-
-  pub passing_stop : (i : ℕ) (x d : X) → i < length xs → x ≡ get_or xs i d → p x ≡ false → Passing i → false ≡ all p xs
-  passing_stop i x d h is t at = ap (λ b. b && all p (drop (i + 1) xs)) (sym t) ∙ passing_step i x d h is at
-
-  pub passing_end : (i : ℕ) → length xs ≤ i → Passing i → true ≡ all p xs
-  passing_end i h at = sym (ap (all p) (drop_all i xs h)) ∙ at
 
 -- ---- what was found
 

@@ -11,11 +11,13 @@ use foundation::bounded::Bounded;
 mod lookup;
 mod reading;
 
+const MOST_RECORDS: usize = 128;
+
 /// 1 to 128 records. Those of one procedure name one owner, and every procedure that a body names
 /// has a record.
 #[derive(Clone, Copy)]
 pub struct ProcedureSet {
-    records: Bounded<Record, 128>,
+    records: Bounded<Record, MOST_RECORDS>,
     ghost some: { 0 < length (items records) },
     ghost agree: { all (agreed (map entry_of (items records))) (map entry_of (items records)) ≡ true },
     ghost named: { all (bodied (map entry_of (items records))) (map entry_of (items records)) ≡ true },

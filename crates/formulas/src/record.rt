@@ -12,12 +12,15 @@ mod reading;
 /// How many bytes a record has.
 pub(crate) const RECORD_LEN: usize = 12;
 
+/// How many symbols a body has at most.
+const LONGEST: usize = 9;
+
 /// One body of a procedure, with the procedure's owner.
 #[derive(Clone, Copy)]
 pub struct Record {
     procedure: Procedure,
     owner: Owner,
-    body: Bounded<Symbol, 9>,
+    body: Bounded<Symbol, LONGEST>,
     ghost known: { procedure < 32 },
     ghost sound: { all proper (items body) ≡ true },
 }

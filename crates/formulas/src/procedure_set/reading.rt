@@ -9,13 +9,11 @@ ghost use Rattle.formulas.specs.Symbols.{Entry};
 ghost use Rattle.formulas.specs.declared.fault.RecordsFault.{RecordsFault};
 
 use crate::fault::RecordsFault;
-use crate::procedure_set::ProcedureSet;
 use crate::procedure_set::lookup::first_owner;
+use crate::procedure_set::{MOST_RECORDS, ProcedureSet};
 use crate::record::{RECORD_LEN, Record};
 use crate::symbol::Symbol;
 use foundation::bounded::Bounded;
-
-const MOST_RECORDS: usize = 128;
 
 impl ProcedureSet {
     /// A procedure set from its records, 12 bytes each, back to back.
@@ -25,10 +23,11 @@ impl ProcedureSet {
         ensures only { (x : Result (List Entry) RecordsFault) → Read bytes.now x → x ≡ viewed result }
     {
         let records = read_records(bytes)?;
-        if let Some(i) = first_stray(records.as_slice()) {
+        let list = records.as_slice();
+        if let Some(i) = first_stray(list) {
             return Err(RecordsFault::Owner(i));
         }
-        if let Some(i) = first_unrecorded(records.as_slice()) {
+        if let Some(i) = first_unrecorded(list) {
             return Err(RecordsFault::Unrecorded(i));
         }
         Ok(ProcedureSet { records })
@@ -37,16 +36,19 @@ impl ProcedureSet {
 
 /// The first pass: every record by its form. Only then do the others begin, since a form that is
 /// wrong anywhere is told before an owner or a body.
-fn read_records(bytes: &[u8]) -> Result<Bounded<Record, 128>, RecordsFault>
+fn read_records(bytes: &[u8]) -> Result<Bounded<Record, MOST_RECORDS>, RecordsFault>
     ensures { listed result ≡ read_records bytes.now }
 {
     let whole = bytes.len() / RECORD_LEN;
     if bytes.len() % RECORD_LEN != 0 || whole == 0 || whole > MOST_RECORDS {
         return Err(RecordsFault::Length(whole));
     }
-    let mut records = Bounded::<Record, 128>::empty(Record::blank());
+    let mut records = Bounded::empty(Record::blank());
     for (i, piece) in bytes.chunks_exact(RECORD_LEN).enumerate() {
-        records.push(Record::read(piece).ok_or(RecordsFault::Form(i))?);
+        let record = Record::read(piece).ok_or(RecordsFault::Form(i))?;
+        let Ok(()) = records.push(record) else {
+            unreachable()
+        };
     }
     Ok(records)
 }

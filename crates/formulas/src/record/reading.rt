@@ -6,12 +6,9 @@ ghost use Rattle.foundation.specs.Tests.{all};
 ghost use Rattle.formulas.specs.Entries.{entry_of};
 ghost use Rattle.formulas.specs.RecordForms.{symbols_in, entry_in};
 
-use crate::record::{RECORD_LEN, Record};
+use crate::record::{LONGEST, RECORD_LEN, Record};
 use crate::symbol::{Owner, PROCEDURES, Procedure, Symbol};
 use foundation::bounded::Bounded;
-
-/// How many symbols a body has at most.
-const LONGEST: u8 = 9;
 
 /// What the bytes after a body are.
 const FILL: u8 = 255;
@@ -27,10 +24,11 @@ impl Record {
         let [procedure, owner, len, rest @ ..] = bytes else {
             return None;
         };
-        if *procedure >= PROCEDURES || *len > LONGEST {
+        let len = usize::from(*len);
+        if *procedure >= PROCEDURES || len > LONGEST {
             return None;
         }
-        let (body, fill) = rest.split_at(usize::from(*len));
+        let (body, fill) = rest.split_at(len);
         if !is_filled(fill) {
             return None;
         }
@@ -46,7 +44,7 @@ impl Record {
         Record {
             procedure: 0,
             owner: Owner::Station,
-            body: Bounded::<Symbol, 9>::empty(Symbol::Command(0)),
+            body: Bounded::empty(Symbol::Command(0)),
         }
     }
 
@@ -76,13 +74,16 @@ fn is_filled(bytes: &[u8]) -> bool
 }
 
 /// A symbol for each byte, or `None` where a byte is none.
-fn read_body(bytes: &[u8]) -> Option<Bounded<Symbol, 9>>
+fn read_body(bytes: &[u8]) -> Option<Bounded<Symbol, LONGEST>>
     requires { length bytes.now ≤ 9 }
     ensures { option_map items result ≡ symbols_in bytes.now }
 {
-    let mut body = Bounded::<Symbol, 9>::empty(Symbol::Command(0));
+    let mut body = Bounded::empty(Symbol::Command(0));
     for byte in bytes {
-        body.push(Symbol::try_from(*byte).ok()?);
+        let symbol = Symbol::try_from(*byte).ok()?;
+        let Ok(()) = body.push(symbol) else {
+            unreachable()
+        };
     }
     Some(body)
 }
