@@ -1,6 +1,7 @@
 -- Formulas: lists of clauses, each a set of effect numbers. Each clause is a choice of the station, each number in it one of the field.
 -- A formula meets a set A if every clause has a member in A. At most `limit` clauses may stand; where one more would, there is no result.
-use Rattle.std.specs.Prelude.{◌≡◌, ℕ, ◌^◌, ◌<◌, Bool, true, if◌then◌else◌, not, ◌&&◌, List, [], ◌∷◌, ◌++◌, map, length, Some, None, filter, Option, bit_or, nat_lt}
+-- `then` is a word of this file, so choices are written by `cond` here and not by if, then and else.
+use Rattle.std.specs.Prelude.{◌≡◌, ℕ, ◌^◌, ◌<◌, Bool, true, cond, not, ◌&&◌, List, [], ◌∷◌, ◌++◌, map, length, Some, None, filter, Option, bit_or, nat_lt}
 use mathlib.Core.List.{Memᴰ}
 use Rattle.std.specs.List.Sorted.{IsStrictlyIncreasing}
 use Rattle.std.specs.List.{AllByRecursion}
@@ -45,15 +46,12 @@ outside C F = filter (λ K. not (within C K)) F
 -- C at its place in the rising order
 abbrev pub placed : ℕ → List ℕ → List ℕ
 placed C [] = C ∷ []
-placed C (K ∷ F) = if nat_lt C K then C ∷ K ∷ F else K ∷ placed C F
+placed C (K ∷ F) = cond (nat_lt C K) (C ∷ K ∷ F) (K ∷ placed C F)
 
 module _ (limit : ℕ) where
   -- nothing happens if a clause lies within C; else the clauses that contain C leave, and C enters
   unfoldable pub offer : ℕ → List ℕ → Option (List ℕ)
-  offer C F =
-      if any (λ K. within K C) F then Some F
-      else if nat_lt (length (outside C F)) limit then Some (placed C (outside C F))
-      else None
+  offer C F = cond (any (λ K. within K C) F) (Some F) (cond (nat_lt (length (outside C F)) limit) (Some (placed C (outside C F))) None)
 
   -- each of a list of clauses offered in order
   abbrev pub offers : List ℕ → List ℕ → Option (List ℕ)
@@ -78,7 +76,7 @@ going_on t A G e = nat_lt e t.count && meets (leading t A e) G
 -- the joins of e with each of ks
 abbrev pub joins : Table → ℕ → List ℕ → List ℕ
 joins t e [] = []
-joins t e (k ∷ ks) = if nat_lt e t.count && nat_lt k t.count then join_of t e k ∷ joins t e ks else joins t e ks
+joins t e (k ∷ ks) = cond (nat_lt e t.count && nat_lt k t.count) (join_of t e k ∷ joins t e ks) (joins t e ks)
 
 -- the set of the joins of e with the members of K
 abbrev pub joined : Table → ℕ → ℕ → ℕ
@@ -98,7 +96,7 @@ module _ (limit : ℕ) where
     -- T, or G after one of the effects
     abbrev pub or_after : List ℕ → List ℕ → List ℕ → Option (List ℕ)
     or_after G T [] = Some T
-    or_after G T (e ∷ es) = if nat_lt e t.count then bind (shift e G) (λ S. bind (either T S) (λ U. or_after G U es)) else or_after G T es
+    or_after G T (e ∷ es) = cond (nat_lt e t.count) (bind (shift e G) (λ S. bind (either T S) (λ U. or_after G U es))) (or_after G T es)
 
     -- R, and for each clause of F: G after one of its effects
     abbrev pub and_after : List ℕ → List ℕ → List ℕ → Option (List ℕ)
