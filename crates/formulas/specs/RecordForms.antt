@@ -1,7 +1,7 @@
 -- A record as twelve bytes: the procedure, its owner, the length of the body, the body, and 255 up to the end.
 use Rattle.std.specs.Prelude.{◌≡◌, ℕ, ◌+◌, ◌-◌, Bool, if◌then◌else◌, ◌&&◌, List, [], ◌∷◌, ◌++◌, map, length, take, drop, replicate, Some, None, Option, ◌==◌, nat_eq, nat_le, nat_lt, slice_index}
 use Rattle.std.specs.Option.{option_map}
-use Rattle.foundation.specs.Tests.{all}
+use Rattle.std.specs.List.{list_all}
 use Rattle.formulas.specs.declared.symbol.Owner.{Owner}
 use Rattle.formulas.specs.declared.symbol.Owner.TheVariants.{Station, Field}
 use Rattle.formulas.specs.declared.symbol.Symbol.{Symbol}
@@ -52,7 +52,7 @@ fill_bytes bs = drop (3 + slice_index bs 2) bs
 
 -- the length, the procedure, the length of the body and the bytes after it are as they should be
 abbrev pub framed : List ℕ → Bool
-framed bs = length bs == 12 && (nat_lt (slice_index bs 0) 32 && (nat_le (slice_index bs 2) 9 && all (λ b. nat_eq b 255) (fill_bytes bs)))
+framed bs = length bs == 12 && (nat_lt (slice_index bs 0) 32 && (nat_le (slice_index bs 2) 9 && list_all (λ b. nat_eq b 255) (fill_bytes bs)))
 
 -- None where the bytes have another form
 abbrev pub entry_in : List ℕ → Option Entry

@@ -2,9 +2,8 @@
 use Rattle.std.specs.Prelude.{◌≡◌, ℕ, zero, suc, ◌+◌, ◌<◌, ◌≤◌, Bool, true, if◌then◌else◌, ◌&&◌, List, Some, None, Ok, Err, Option, Result, ◌≢◌, nat_le, nat_lt}
 use mathlib.Core.List.{Memᴰ}
 use Rattle.std.specs.Cmp.Lexicographic.{pointwise}
-use Rattle.std.specs.List.{slice_get}
+use Rattle.std.specs.List.{slice_get, list_all}
 use Rattle.std.specs.Str.{bytes_eq}
-use Rattle.foundation.specs.Tests.{all}
 use Rattle.rules.specs.Tables.{Table}
 use Rattle.formulas.specs.declared.fault.SolveFault.{SolveFault}
 use Rattle.formulas.specs.declared.fault.SolveFault.TheVariants.{Allowance, UnknownCommand, TooManyClauses, Unsettled}
@@ -36,7 +35,7 @@ known n (Command c) = nat_lt c n
 known n (Procedure x) = true
 
 abbrev pub known_body : ℕ → Entry → Bool
-known_body n r = all (known n) r.body
+known_body n r = list_all (known n) r.body
 
 -- refused at the first record with a command that the rule lacks
 abbrev pub unless_lacking : Option ℕ → Result Settled SolveFault → Result Settled SolveFault

@@ -1,6 +1,6 @@
 //! Solving a procedure set under a rule: rounds until one is equal to the one before it.
 ghost use Rattle.std.specs.Prelude.{◌≡◌, List, IfOk};
-ghost use Rattle.foundation.specs.Tests.{all};
+ghost use Rattle.std.specs.List.{list_all};
 ghost use Rattle.rules.specs.Surveys.{view};
 ghost use Rattle.formulas.specs.Equations.{SettledLists, MeetsByTrees};
 ghost use Rattle.formulas.specs.FormulaViews.{formula_list, found};
@@ -111,7 +111,7 @@ fn first_lacking(set: &ProcedureSet, commands: u8) -> Option<usize>
 }
 
 fn all_known(body: &[Symbol], commands: u8) -> bool
-    ensures { result ≡ all (known commands) body.now }
+    ensures { result ≡ list_all (known commands) body.now }
 {
     body.iter().all(|symbol| is_known(*symbol, commands))
 }

@@ -2,7 +2,7 @@
 -- A width w gives the numbers below w a place. Nothing here fixes it.
 use Rattle.std.specs.Prelude.{◌≡◌, ℕ, zero, suc, ◌+◌, ◌/◌, ◌%◌, ◌^◌, ◌<◌, Bool, true, false, if◌then◌else◌, List, [], ◌∷◌, map, ◌==◌, bit_and, bit_or, nat_lt}
 use Rattle.foundation.specs.Bits.{has}
-use Rattle.foundation.specs.Tests.{any}
+use Rattle.std.specs.List.{list_any}
 
 -- s with n as one more member; a number that has no place leaves s as it is
 abbrev pub added : ℕ → ℕ → ℕ → ℕ
@@ -41,4 +41,4 @@ gathered (k ∷ ks) = bit_or (2 ^ k) (gathered ks)
 
 -- whether the set s has a member in A
 abbrev pub hits : (ℕ → Bool) → ℕ → Bool
-hits A s = any A (members s)
+hits A s = list_any A (members s)
