@@ -1,10 +1,10 @@
 -- Where an offered clause stands, and what is left of the others.
-use Rattle.std.proofs.Common.{◌≡◌, ℕ, zero, suc, ◌+◌, ◌-◌, ◌<◌, ◌≤◌, Bool, true, false, cond, not, ◌&&◌, ◌||◌, ltb, List, [], ◌∷◌, ◌++◌, length, get_or, take, drop, Some, None, sym, refl, ap, ◌∙◌, subst, ⊎_elim, arith}
+use Rattle.std.proofs.Common.{◌≡◌, ℕ, zero, suc, ◌+◌, ◌<◌, ◌≤◌, Bool, true, false, cond, not, ◌&&◌, ◌||◌, ltb, List, [], ◌∷◌, ◌++◌, length, get_or, take, drop, Some, None, sym, refl, ap, ◌∙◌, subst, ⊎_elim, arith}
 use Rattle.std.specs.List.{AllByRecursion, list_any}
 use Rattle.std.proofs.lemmas.List.Elements.{filter-append, filter_more}
 use Rattle.std.proofs.ByRecursion.{All-weaker, All-more, all_kept_by}
 use Rattle.std.proofs.lemmas.List.{take-append-drop, length-take-le, get_or_default, append_assoc, append-nil, length-append, length_push}
-use Rattle.std.proofs.lemmas.Bool.{ltb-true, ltb-false, lt-ltb, le-ltb, false≢true, cases_lt, or_right, or_from, cond-true, cond-false, not_from_false, both_ways}
+use Rattle.std.proofs.lemmas.Bool.{ltb-false, lt-ltb, le-ltb, false≢true, cases_lt, or_right, or_from, cond-true, cond-false, not_from_false, both_ways}
 use Rattle.foundation.specs.declared.bounded.Bounded.{Bounded}
 use Rattle.foundation.specs.Bounds.{items}
 use Rattle.foundation.specs.Sets.{within, hits}

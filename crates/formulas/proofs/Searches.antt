@@ -7,13 +7,6 @@ use Rattle.formulas.specs.Searches.{first_bad}
 
 -- ---- the searches of the code, which are std's
 
-list_all_is : {X : Type 0} (p : X → Bool) (xs : List X) → list_all p xs ≡ list_all p xs
-list_all_is p [] = refl
-list_all_is p (x ∷ xs) = ap (λ b. p x && b) (list_all_is p xs)
-
-pub all_from : {X : Type 0} (p : X → Bool) (xs : List X) (r : Bool) → r ≡ list_all p xs → r ≡ list_all p xs
-all_from p xs r e = e ∙ list_all_is p xs
-
 first_bad-map : {X Y : Type 0} (good : Y → Bool) (f : X → Y) (i : ℕ) (xs : List X) → first_bad (λ x. good (f x)) i xs ≡ first_bad good i (map f xs)
 first_bad-map good f i [] = refl
 first_bad-map good f i (x ∷ xs) = ap (cond (not (good (f x))) (Some i)) (first_bad-map good f (i + 1) xs)
