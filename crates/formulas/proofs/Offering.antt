@@ -8,7 +8,7 @@ use Rattle.std.proofs.lemmas.Bool.{ltb-false, lt-ltb, le-ltb, false≢true, case
 use Rattle.foundation.specs.declared.bounded.Bounded.{Bounded}
 use Rattle.foundation.specs.Bounds.{items}
 use Rattle.foundation.specs.Sets.{within, hits}
-use Rattle.foundation.specs.Laws.Bounds.{length_items}
+use Rattle.foundation.specs.Laws.Bounds.{items_fit}
 use Rattle.formulas.specs.Clauses.{entering, Stands, AndAlso, SmallestOf}
 use Rattle.formulas.specs.Formulas.{meets, Normal, outside, placed, offer}
 use Rattle.formulas.proofs.Given.{given_some}
@@ -77,9 +77,6 @@ module _ (C : ℕ) (F : List ℕ) (i : ℕ) (h : i < length F) (K : ℕ) (is : K
 
 pub spot_end : (C : ℕ) (F : List ℕ) (i : ℕ) → Ordered F → length F ≤ i → Passed C F i → Stands C F i
 spot_end C F i o e p = stands_at C F i o p (λ h. absurd (omega arith))
-
-pub items_few : (b : Bounded ℕ 64) → length (items b) ≤ 64
-items_few b = omega (arith, length_items b, b.few)
 
 -- ---- adding the clauses that do not contain C
 
@@ -156,7 +153,7 @@ module _ (C : ℕ) (F : List ℕ) where
     unfolding offer
     offer-entered b e =
         cond-false (list_any (λ K. within K C) F) (Some F) (cond (ltb (length (outside C F)) 64) (Some (placed C (outside C F))) None) s.new
-        ∙ cond-true (ltb (length (outside C F)) 64) (Some (placed C (outside C F))) None (lt-ltb (length (outside C F)) 64 (omega (arith, outside_long, ap length e, items_few b)))
+        ∙ cond-true (ltb (length (outside C F)) 64) (Some (placed C (outside C F))) None (lt-ltb (length (outside C F)) 64 (omega (arith, outside_long, ap length e, items_fit b)))
         ∙ ap Some (s.is ∙ sym e)
 
     pub entered_least : Normal F → (b : Bounded ℕ 64) → items b ≡ entering C F i → SmallestOf F C (items b)

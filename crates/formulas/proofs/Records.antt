@@ -5,7 +5,7 @@ use Rattle.std.specs.List.{slice_get, list_all}
 use Rattle.std.proofs.lemmas.List.{length-map}
 use Rattle.std.proofs.lemmas.Bool.{cond-true, cond-false, eqb-true, eqb-false}
 use Rattle.foundation.specs.Bounds.{items}
-use Rattle.foundation.specs.Laws.Bounds.{length_items}
+use Rattle.foundation.specs.Laws.Bounds.{items_fit}
 use Rattle.foundation.specs.Laws.Tests.{all_in}
 use Rattle.formulas.specs.declared.procedure_set.ProcedureSet.{ProcedureSet}
 use Rattle.formulas.specs.declared.record.Record.{Record}
@@ -158,12 +158,12 @@ set_named s = named_from (entries s) s.named
 pub set_size : (s : ProcedureSet) → (0 < length (entries s)) × (length (entries s) ≤ 128)
 set_size s =
     let e : length (entries s) ≡ length (items s.records) = length-map (items s.records) entry_of in
-    (omega (arith, s.some), omega (arith, length_items s.records, s.records.few))
+    (omega (arith, s.some), omega (arith, items_fit s.records))
 
 pub record_range : (r : Record) → InRange (entry_of r)
 record_range r = record {
   known = r.known;
-  short = omega (arith, length_items r.body, r.body.few);
+  short = omega (arith, items_fit r.body);
   symbols = all-proper (items r.body) r.sound;
 }
 
