@@ -8,7 +8,7 @@ use Rattle.std.proofs.ByRecursion.{All-append}
 use Rattle.std.proofs.lemmas.Bool.{ltb-true}
 use Rattle.foundation.specs.Bits.{has}
 use Rattle.foundation.specs.Sets.{members, gathered}
-use Rattle.foundation.specs.Tests.{any, all}
+use Rattle.std.specs.List.{list_any, list_all}
 use Rattle.rules.specs.Lookups.{table_command}
 use Rattle.rules.specs.Tables.{Table, join_of}
 use Rattle.formulas.specs.declared.symbol.Owner.{Owner}
@@ -31,13 +31,13 @@ use Rattle.formulas.proofs.Winning.{body_says}
 
 abbrev pub by_owner : Option Owner → (List Symbol → Bool) → List (List Symbol) → Bool
 by_owner None p bs = false
-by_owner (Some Station) p bs = all p bs
-by_owner (Some Field) p bs = any p bs
+by_owner (Some Station) p bs = list_all p bs
+by_owner (Some Field) p bs = list_any p bs
 
 -- with one body more in front
 abbrev with_front : Owner → Bool → (List Symbol → Bool) → List (List Symbol) → Bool
-with_front Station b p bs = b && all p bs
-with_front Field b p bs = b || any p bs
+with_front Station b p bs = b && list_all p bs
+with_front Field b p bs = b || list_any p bs
 
 module _ (t : Table) (m : Monoid t) (limit : ℕ) (L : List (List ℕ)) where
   -- the field wins the body b from the start, where A is forbidden
@@ -60,8 +60,8 @@ module _ (t : Table) (m : Monoid t) (limit : ℕ) (L : List (List ℕ)) where
       each (Some R) h = λ A. h A ∙ ap₂ (λ (x y : Bool). x || y) (f A) (g A ∙ sym (or-false (q A)))
 
   front_more : (o : Owner) (b q : Bool) (p : List Symbol → Bool) (bs : List (List Symbol)) (s : List Symbol) → p s ≡ q → with_front o (with_front o b (λ _. q) ([] ∷ [])) p bs ≡ with_front o b p (s ∷ bs)
-  front_more Station b q p bs s e = and_assoc b (q && true) (all p bs) ∙ ap (λ x. b && (x && all p bs)) (and-true q ∙ sym e)
-  front_more Field b q p bs s e = or_assoc b (q || false) (any p bs) ∙ ap (λ x. b || (x || any p bs)) (or-false q ∙ sym e)
+  front_more Station b q p bs s e = and_assoc b (q && true) (list_all p bs) ∙ ap (λ x. b && (x && list_all p bs)) (and-true q ∙ sym e)
+  front_more Field b q p bs s e = or_assoc b (q || false) (list_any p bs) ∙ ap (λ x. b || (x || list_any p bs)) (or-false q ∙ sym e)
 
   front_none : (o : Owner) (b : Bool) (p : List Symbol → Bool) → b ≡ with_front o b p []
   front_none Station b p = sym (and-true b)

@@ -3,7 +3,7 @@ use Rattle.std.proofs.Common.{◌≡◌, ℕ, ◌+◌, ◌-◌, ◌<◌, ◌≤�
 use Rattle.std.specs.Option.{option_map}
 use Rattle.std.proofs.lemmas.List.{drop_more, drop_all, drop-drop, take_rest}
 use Rattle.std.proofs.lemmas.Bool.{cond-true, and_from, eq-eqb, le-leb, lt-ltb, and_parts, ltb-true, leb-true}
-use Rattle.foundation.specs.Tests.{all}
+use Rattle.std.specs.List.{list_all}
 use Rattle.formulas.specs.declared.symbol.Owner.{Owner}
 use Rattle.formulas.specs.declared.symbol.Symbol.{Symbol}
 use Rattle.formulas.specs.declared.symbol.Symbol.TheVariants.{Command, Procedure}
@@ -60,16 +60,16 @@ symbol_sound b s e = go (ltb b 16) refl (leb 32 b && ltb b 64) refl e
         ap proper k ∙ lt-ltb (b - 32) 32 (omega (arith, leb-true 32 b p.0, ltb-true b 64 p.1))
     go false f false g e = let z : ◌≡◌ {A = ℕ} 0 1 = cc in absurd (omega arith)
 
-pub symbols_sound : (bs : List ℕ) (ss : List Symbol) → Some ss ≡ symbols_in bs → all proper ss ≡ true
-symbols_sound [] ss e = let k : ss ≡ [] = cc in ap (all proper) k
+pub symbols_sound : (bs : List ℕ) (ss : List Symbol) → Some ss ≡ symbols_in bs → list_all proper ss ≡ true
+symbols_sound [] ss e = let k : ss ≡ [] = cc in ap (list_all proper) k
 symbols_sound (b ∷ bs) ss e = go (symbols_sound bs) (symbol_in b) refl (symbols_in bs) refl e
   where
-    go : ((ss : List Symbol) → Some ss ≡ symbols_in bs → all proper ss ≡ true) → (o : Option Symbol) → symbol_in b ≡ o → (r : Option (List Symbol)) → symbols_in bs ≡ r → Some ss ≡ bind o (λ s. option_map (λ ss. s ∷ ss) r) → all proper ss ≡ true
+    go : ((ss : List Symbol) → Some ss ≡ symbols_in bs → list_all proper ss ≡ true) → (o : Option Symbol) → symbol_in b ≡ o → (r : Option (List Symbol)) → symbols_in bs ≡ r → Some ss ≡ bind o (λ s. option_map (λ ss. s ∷ ss) r) → list_all proper ss ≡ true
     go below None f r g e = let z : ◌≡◌ {A = ℕ} 0 1 = cc in absurd (omega arith)
     go below (Some s) f None g e = let z : ◌≡◌ {A = ℕ} 0 1 = cc in absurd (omega arith)
     go below (Some s) f (Some rest) g e =
         let k : ss ≡ s ∷ rest = cc in
-        ap (all proper) k ∙ and_from (proper s) (all proper rest) (symbol_sound b s f) (below rest (sym g))
+        ap (list_all proper) k ∙ and_from (proper s) (list_all proper rest) (symbol_sound b s f) (below rest (sym g))
 
 -- ---- the parts of a record
 
@@ -81,7 +81,7 @@ module _ (bs : List ℕ) where
   abbrev rest : List ℕ
   rest = take (length bs - 3) (drop 3 bs)
 
-  pub framed_from : length bs ≡ 12 → get_or bs 0 0 < 32 → get_or bs 2 0 ≤ 9 → all (λ b. eqb b 255) (fill_bytes bs) ≡ true → framed bs ≡ true
+  pub framed_from : length bs ≡ 12 → get_or bs 0 0 < 32 → get_or bs 2 0 ≤ 9 → list_all (λ b. eqb b 255) (fill_bytes bs) ≡ true → framed bs ≡ true
   framed_from n p l f = and_from (eqb (length bs) 12) _ (eq-eqb (length bs) 12 n) (and_from (ltb (get_or bs 0 0) 32) _ (lt-ltb (get_or bs 0 0) 32 p) (and_from (leb (get_or bs 2 0) 9) _ (le-leb (get_or bs 2 0) 9 l) f))
 
   pub entry_framed : framed bs ≡ true → entry_from bs (owner_in (get_or bs 1 0)) (symbols_in (body_bytes bs)) ≡ entry_in bs
@@ -95,8 +95,8 @@ module _ (bs : List ℕ) where
     fill_part = back ∙ ap₂ drop is (take_rest bs 3) ∙ drop-drop (get_or bs 2 0) 3 bs
 
     pub entry_read : (o : Owner) (ss : List Symbol) → length bs ≡ 12 → get_or bs 0 0 < 32 → n ≤ 9
-        → true ≡ all (λ b. eqb b 255) fill → Some o ≡ owner_in (get_or bs 1 0) → Some ss ≡ symbols_in body
+        → true ≡ list_all (λ b. eqb b 255) fill → Some o ≡ owner_in (get_or bs 1 0) → Some ss ≡ symbols_in body
         → Some (record { procedure = get_or bs 0 0; owner = o; body = ss }) ≡ entry_in bs
     entry_read o ss len p l f w b =
         ap (λ x. entry_from bs x (Some ss)) w ∙ ap (entry_from bs (owner_in (get_or bs 1 0))) (b ∙ ap symbols_in body_part)
-        ∙ entry_framed (framed_from len p (omega (arith, is, l)) (sym (f ∙ ap (all (λ b. eqb b 255)) fill_part)))
+        ∙ entry_framed (framed_from len p (omega (arith, is, l)) (sym (f ∙ ap (list_all (λ b. eqb b 255)) fill_part)))

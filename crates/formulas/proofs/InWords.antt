@@ -1,10 +1,9 @@
 -- Reading by computing answers what the words say.
 use Rattle.std.proofs.Common.{◌≡◌, ℕ, zero, suc, ◌+◌, ◌/◌, ◌%◌, ◌<◌, ◌≤◌, Bool, true, false, cond, eqb, ltb, leb, List, [], ◌∷◌, map, length, is_some, Some, None, Ok, Err, Option, Result, sym, refl, ap, ◌∙◌, subst, ⊎_elim, arith}
 use mathlib.Core.List.{Memᴰ}
-use Rattle.std.specs.List.{range_with_len, slice_get}
+use Rattle.std.specs.List.{range_with_len, slice_get, list_all}
 use Rattle.std.proofs.lemmas.List.FromFn.{length-map-range_with_len}
 use Rattle.std.proofs.lemmas.Bool.{and_parts, and_from, cases_lt, eqb-true, eq-eqb, leb-true, le-leb, ltb-true, lt-ltb}
-use Rattle.foundation.specs.Tests.{all}
 use Rattle.foundation.specs.Laws.Tests.{all_in, not_all_in}
 use Rattle.rules.specs.Automata.{record_at}
 use Rattle.formulas.specs.declared.fault.RecordsFault.{RecordsFault}
@@ -72,17 +71,17 @@ has_form bs e = go (entry_in bs) e
 said_all : (b : List ℕ) (ps : List (List ℕ)) → formed b ≡ true → (r : Entry) × (Some r ≡ entry_in b) × (said (b ∷ ps) ≡ r ∷ said ps)
 said_all b ps e = let w = has_form b e in (w.0, w.1, ap (λ o. before o (said ps)) (sym w.1))
 
-pub said-length : (ps : List (List ℕ)) → all formed ps ≡ true → length (said ps) ≡ length ps
+pub said-length : (ps : List (List ℕ)) → list_all formed ps ≡ true → length (said ps) ≡ length ps
 said-length [] e = refl
 said-length (b ∷ ps) e =
-    let p = and_parts (formed b) (all formed ps) e in
+    let p = and_parts (formed b) (list_all formed ps) e in
     let w = said_all b ps p.0 in
     ap length w.2 ∙ ap suc (said-length ps p.1)
 
-pub said_nth : (ps : List (List ℕ)) → all formed ps ≡ true → (i : ℕ) (r : Entry) → slice_get (said ps) i ≡ Some r → (b : List ℕ) × (slice_get ps i ≡ Some b) × (Some r ≡ entry_in b)
+pub said_nth : (ps : List (List ℕ)) → list_all formed ps ≡ true → (i : ℕ) (r : Entry) → slice_get (said ps) i ≡ Some r → (b : List ℕ) × (slice_get ps i ≡ Some b) × (Some r ≡ entry_in b)
 said_nth [] e i r h = let z : ◌≡◌ {A = ℕ} 0 1 = cc in absurd (omega arith)
 said_nth (b ∷ ps) e i r h =
-    let p = and_parts (formed b) (all formed ps) e in
+    let p = and_parts (formed b) (list_all formed ps) e in
     let w = said_all b ps p.0 in
     go w.0 w.1 i (ap (λ l. slice_get l i) (sym w.2) ∙ h) (said_nth ps p.1)
   where
@@ -91,7 +90,7 @@ said_nth (b ∷ ps) e i r h =
     go s f zero h below = (b, refl, sym h ∙ f)
     go s f (suc j) h below = below j r h
 
-pub says_from : (bytes : List ℕ) → Whole bytes → all formed (pieces bytes) ≡ true → Says bytes (said (pieces bytes))
+pub says_from : (bytes : List ℕ) → Whole bytes → list_all formed (pieces bytes) ≡ true → Says bytes (said (pieces bytes))
 says_from bytes w e = record {
   sized = w;
   count = said-length (pieces bytes) e ∙ length-map-range_with_len (record_at bytes) 0 (length bytes / 12);
@@ -236,8 +235,8 @@ module _ (bytes : List ℕ) where
       pub set_some : 0 < length rs
       set_some = let s = records_say bytes rs ok in omega (arith, s.sized, s.count)
 
-      pub set_agreed : all (agreed rs) rs ≡ true
+      pub set_agreed : list_all (agreed rs) rs ≡ true
       set_agreed = none_bad (agreed rs) 0 rs (sym (strays_in None agree))
 
-      pub set_bodied : None ≡ first_bad (bodied part) 0 part → all (bodied rs) rs ≡ true
+      pub set_bodied : None ≡ first_bad (bodied part) 0 part → list_all (bodied rs) rs ≡ true
       set_bodied h = none_bad (bodied rs) 0 rs (sym (lacks_in None h))

@@ -2,7 +2,7 @@
 use Rattle.std.proofs.Common.{◌≡◌, ℕ, ◌^◌, ◌<◌, Bool, List, [], ◌∷◌, IfOk, Some, None, Ok, Err, Decides, Option, Result, sym, refl, ap, ◌∙◌, subst, ap₂, arith}
 use mathlib.Core.Path.{fun_ext}
 use Rattle.foundation.specs.Bits.{has}
-use Rattle.foundation.specs.Tests.{any, all}
+use Rattle.std.specs.List.{list_any, list_all}
 use Rattle.foundation.specs.Laws.Bits.{same_tests}
 use Rattle.foundation.specs.Laws.Tests.{any_in, in_any, all_in, in_all}
 use Rattle.rules.specs.Tables.{Table}
@@ -35,13 +35,13 @@ module _ (rs : List Entry) (agree : Agree rs) (t : Table) (m : Monoid t) where
     wins : List Symbol → Bool
     wins b = has (winning t φ A b) 0
 
-    all_records : Decides (all (λ b. has (winning t φ A b) 0) (bodies rs x)) ((r : Entry) → Of rs x r → WinsBody rs t φ A r)
+    all_records : Decides (list_all (λ b. has (winning t φ A b) 0) (bodies rs x)) ((r : Entry) → Of rs x r → WinsBody rs t φ A r)
     all_records = (
       λ h r f. all_in (λ b. has (winning t φ A b) 0) (of_body rs x r f) h,
       λ h. in_all (λ b. has (winning t φ A b) 0) (bodies rs x) (λ b i. let r = body_of rs x b i in ap (λ c. has (winning t φ A c) 0) (sym r.2) ∙ h r.0 r.1),
     )
 
-    some_record : Decides (any (λ b. has (winning t φ A b) 0) (bodies rs x)) ((r : Entry) × Of rs x r × WinsBody rs t φ A r)
+    some_record : Decides (list_any (λ b. has (winning t φ A b) 0) (bodies rs x)) ((r : Entry) × Of rs x r × WinsBody rs t φ A r)
     some_record = (
       λ h. let p = any_in (λ b. has (winning t φ A b) 0) (bodies rs x) h in let r = body_of rs x p.0 p.1 in (r.0, r.1, ap (λ c. has (winning t φ A c) 0) r.2 ∙ p.2),
       λ r. in_any (λ b. has (winning t φ A b) 0) (of_body rs x r.0 r.1) r.2,

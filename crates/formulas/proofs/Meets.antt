@@ -4,9 +4,9 @@ use mathlib.Core.Path.{fun_ext}
 use mathlib.Core.Bool.{and_assoc, and_comm, and-true, and-false, or_assoc, or-false, or-true, or-and_distrib_left, or-and_distrib_right, false≢true}
 use lib.Bits.{bit_or}
 use Rattle.foundation.specs.Sets.{within, members, hits}
-use Rattle.foundation.specs.Tests.{any, all}
+use Rattle.std.specs.List.{list_any, list_all}
 use Rattle.foundation.specs.Laws.Members.{hits-none, hits-or, hits-gathered, hits-within}
-use Rattle.foundation.specs.Laws.Tests.{all_map, all_append}
+use Rattle.std.proofs.lemmas.List.Folds.{list_all-append, list_all-map}
 use Rattle.rules.specs.Tables.{Table, join_of}
 use Rattle.formulas.specs.Steps.{bind}
 use Rattle.formulas.specs.Formulas.{meets, impossible, outside, placed, offer, offers, unions, leading, going_on, joins, joined, both, either, shift, or_after, and_after, then}
@@ -49,11 +49,11 @@ module _ (A : ℕ → Bool) where
       go true ih = and_comm (hits A C) (hits A K && meets A F)
       go false ih = ap (λ b. hits A K && b) ih ∙ sym (and_assoc (hits A K) (meets A F) (hits A C))
 
-  items-meets : (C : ℕ) (F : List ℕ) → any (λ K. within K C) F ≡ true → meets A F ≡ (meets A F && hits A C)
-  items-meets C [] h = absurd (false≢true h)
-  items-meets C (K ∷ F) h = go (within K C) refl h (items-meets C F)
+  held-meets : (C : ℕ) (F : List ℕ) → list_any (λ K. within K C) F ≡ true → meets A F ≡ (meets A F && hits A C)
+  held-meets C [] h = absurd (false≢true h)
+  held-meets C (K ∷ F) h = go (within K C) refl h (held-meets C F)
     where
-      go : (b : Bool) → within K C ≡ b → (b || any (λ K. within K C) F) ≡ true → (any (λ K. within K C) F ≡ true → meets A F ≡ (meets A F && hits A C))
+      go : (b : Bool) → within K C ≡ b → (b || list_any (λ K. within K C) F) ≡ true → (list_any (λ K. within K C) F ≡ true → meets A F ≡ (meets A F && hits A C))
           → (hits A K && meets A F) ≡ ((hits A K && meets A F) && hits A C)
       go true e h ih = implied (hits A K) (hits A C) (meets A F) (hits-within A K C e)
       go false e h ih = ap (λ b. hits A K && b) (ih h) ∙ sym (and_assoc (hits A K) (meets A F) (hits A C))
@@ -64,10 +64,10 @@ module _ (A : ℕ → Bool) where
   module _ (limit : ℕ) where
     pub offer-meets : (C : ℕ) (F : List ℕ) → Given (offer limit C F) (λ R. meets A R ≡ (meets A F && hits A C))
     unfolding offer
-    offer-meets C F = go (any (λ K. within K C) F) refl (ltb (length (outside C F)) limit)
+    offer-meets C F = go (list_any (λ K. within K C) F) refl (ltb (length (outside C F)) limit)
       where
-        go : (b : Bool) → any (λ K. within K C) F ≡ b → (d : Bool) → Given (cond b (Some F) (cond d (Some (placed C (outside C F))) None)) (λ R. meets A R ≡ (meets A F && hits A C))
-        go true e d = items-meets C F e
+        go : (b : Bool) → list_any (λ K. within K C) F ≡ b → (d : Bool) → Given (cond b (Some F) (cond d (Some (placed C (outside C F))) None)) (λ R. meets A R ≡ (meets A F && hits A C))
+        go true e d = held-meets C F e
         go false e true = placed-meets C (outside C F) ∙ outside-meets C F
         go false e false = tt
 
@@ -87,7 +87,7 @@ module _ (A : ℕ → Bool) where
   unions_meet : (F G : List ℕ) → meets A (unions F G) ≡ (meets A F || meets A G)
   unions_meet [] G = refl
   unions_meet (K ∷ F) G =
-      all_append (hits A) (map (bit_or K) G) (unions F G)
+      list_all-append (hits A) (map (bit_or K) G) (unions F G)
       ∙ ap₂ (λ (x y : Bool). x && y) (row-meets K G) (unions_meet F G) ∙ sym (or-and_distrib_right (hits A K) (meets A F) (meets A G))
 
   module _ (limit : ℕ) where
@@ -98,11 +98,11 @@ module _ (A : ℕ → Bool) where
 -- ---- shift and then compose as the join does
 
 module _ (t : Table) (A : ℕ → Bool) where
-  any-joins : (e : ℕ) (ks : List ℕ) → any A (joins t e ks) ≡ any (leading t A e) ks
+  any-joins : (e : ℕ) (ks : List ℕ) → list_any A (joins t e ks) ≡ list_any (leading t A e) ks
   any-joins e [] = refl
   any-joins e (k ∷ ks) = go (ltb e t.count) (ltb k t.count) (any-joins e ks)
     where
-      go : (x y : Bool) → any A (joins t e ks) ≡ any (leading t A e) ks → any A (cond (x && y) (join_of t e k ∷ joins t e ks) (joins t e ks)) ≡ ((x && (y && A (join_of t e k))) || any (leading t A e) ks)
+      go : (x y : Bool) → list_any A (joins t e ks) ≡ list_any (leading t A e) ks → list_any A (cond (x && y) (join_of t e k ∷ joins t e ks) (joins t e ks)) ≡ ((x && (y && A (join_of t e k))) || list_any (leading t A e) ks)
       go true true ih = ap (λ b. A (join_of t e k) || b) ih
       go true false ih = ih
       go false y ih = ih
@@ -114,20 +114,20 @@ module _ (t : Table) (A : ℕ → Bool) where
     pub shift-meets : (e : ℕ) (F : List ℕ) → Given (shift limit t e F) (λ R. meets A R ≡ meets (leading t A e) F)
     shift-meets e F =
         given_weaker (shift limit t e F) (λ R. meets A R ≡ (true && meets A (map (joined t e) F))) (λ R. meets A R ≡ meets (leading t A e) F) (offers-meet A limit [] (map (joined t e) F))
-        (λ R h. h ∙ all_map (hits A) (joined t e) F ∙ ap (λ (p : ℕ → Bool). all p F) (fun_ext (hits-joined e)))
+        (λ R h. h ∙ list_all-map (hits A) (joined t e) F ∙ ap (λ (p : ℕ → Bool). list_all p F) (fun_ext (hits-joined e)))
 
-    or_after-meets : (G T es : List ℕ) → Given (or_after limit t G T es) (λ R. meets A R ≡ (meets A T || any (going_on t A G) es))
+    or_after-meets : (G T es : List ℕ) → Given (or_after limit t G T es) (λ R. meets A R ≡ (meets A T || list_any (going_on t A G) es))
     or_after-meets G T [] = sym (or-false (meets A T))
     or_after-meets G T (e ∷ es) = go (ltb e t.count) (or_after-meets G T es) (λ U. or_after-meets G U es)
       where
-        go : (b : Bool) → Given (or_after limit t G T es) (λ R. meets A R ≡ (meets A T || any (going_on t A G) es)) → ((U : List ℕ) → Given (or_after limit t G U es) (λ R. meets A R ≡ (meets A U || any (going_on t A G) es)))
-            → Given (cond b (bind (shift limit t e G) (λ S. bind (either limit T S) (λ U. or_after limit t G U es))) (or_after limit t G T es)) (λ R. meets A R ≡ (meets A T || ((b && meets (leading t A e) G) || any (going_on t A G) es)))
+        go : (b : Bool) → Given (or_after limit t G T es) (λ R. meets A R ≡ (meets A T || list_any (going_on t A G) es)) → ((U : List ℕ) → Given (or_after limit t G U es) (λ R. meets A R ≡ (meets A U || list_any (going_on t A G) es)))
+            → Given (cond b (bind (shift limit t e G) (λ S. bind (either limit T S) (λ U. or_after limit t G U es))) (or_after limit t G T es)) (λ R. meets A R ≡ (meets A T || ((b && meets (leading t A e) G) || list_any (going_on t A G) es)))
         go false same ih = same
         go true same ih =
-            given_bind (shift limit t e G) (λ S. bind (either limit T S) (λ U. or_after limit t G U es)) (λ S. meets A S ≡ meets (leading t A e) G) (λ R. meets A R ≡ (meets A T || (meets (leading t A e) G || any (going_on t A G) es))) (shift-meets e G)
-            (λ S s. given_bind (either limit T S) (λ U. or_after limit t G U es) (λ U. meets A U ≡ (meets A T || meets A S)) (λ R. meets A R ≡ (meets A T || (meets (leading t A e) G || any (going_on t A G) es))) (either_meets A limit T S)
-            (λ U u. given_weaker (or_after limit t G U es) (λ R. meets A R ≡ (meets A U || any (going_on t A G) es)) (λ R. meets A R ≡ (meets A T || (meets (leading t A e) G || any (going_on t A G) es))) (ih U)
-            (λ R r. r ∙ ap (λ b. b || any (going_on t A G) es) (u ∙ ap (λ b. meets A T || b) s) ∙ or_assoc (meets A T) (meets (leading t A e) G) (any (going_on t A G) es))))
+            given_bind (shift limit t e G) (λ S. bind (either limit T S) (λ U. or_after limit t G U es)) (λ S. meets A S ≡ meets (leading t A e) G) (λ R. meets A R ≡ (meets A T || (meets (leading t A e) G || list_any (going_on t A G) es))) (shift-meets e G)
+            (λ S s. given_bind (either limit T S) (λ U. or_after limit t G U es) (λ U. meets A U ≡ (meets A T || meets A S)) (λ R. meets A R ≡ (meets A T || (meets (leading t A e) G || list_any (going_on t A G) es))) (either_meets A limit T S)
+            (λ U u. given_weaker (or_after limit t G U es) (λ R. meets A R ≡ (meets A U || list_any (going_on t A G) es)) (λ R. meets A R ≡ (meets A T || (meets (leading t A e) G || list_any (going_on t A G) es))) (ih U)
+            (λ R r. r ∙ ap (λ b. b || list_any (going_on t A G) es) (u ∙ ap (λ b. meets A T || b) s) ∙ or_assoc (meets A T) (meets (leading t A e) G) (list_any (going_on t A G) es))))
 
     and_after-meets : (G R F : List ℕ) → Given (and_after limit t G R F) (λ S. meets A S ≡ (meets A R && meets (going_on t A G) F))
     and_after-meets G R [] = sym (and-true (meets A R))

@@ -5,12 +5,11 @@ use mathlib.Core.List.{Memᴰ}
 use mathlib.Core.Bool.{false≢true}
 use lib.Bits.{bit_and, and_self, and_le_r}
 use Rattle.std.specs.List.Sorted.{IsStrictlyIncreasing}
-use Rattle.std.specs.List.{AllByRecursion}
+use Rattle.std.specs.List.{AllByRecursion, list_any}
 use Rattle.std.proofs.ByRecursion.{All-weaker, all_kept_by}
 use Rattle.std.proofs.lemmas.Bool.{ltb-true, ltb-false, eqb-true, eq-eqb, both_ways, cases_Bool, cases_lt, and_parts, and_from, not-true, not_from_false}
 use Rattle.foundation.specs.Bits.{has, number}
 use Rattle.foundation.specs.Sets.{within, hits}
-use Rattle.foundation.specs.Tests.{any}
 use Rattle.foundation.specs.Laws.Bits.{has-number, has_above, has_ext, number_lt, same_tests}
 use Rattle.foundation.specs.Laws.Members.{hits_decides}
 use Rattle.foundation.specs.Laws.Sets.{within_decides}
@@ -68,13 +67,13 @@ normal_test F n = go F (climbs_ordered F n.rising) n.apart
   where
     go : (F : List ℕ) → Ordered F → ((K L : ℕ) → Memᴰ K F → Memᴰ L F → within K L ≡ true → K ≡ L) → none_within F ≡ true
     go [] o a = refl
-    go (K ∷ F) o a = and_from (not (any (within K) F)) (none_within F) (not_from_false (any (within K) F) new) (go F o.1 (λ L M l m. a L M (Memᴰ.tail l) (Memᴰ.tail m)))
+    go (K ∷ F) o a = and_from (not (list_any (within K) F)) (none_within F) (not_from_false (list_any (within K) F) new) (go F o.1 (λ L M l m. a L M (Memᴰ.tail l) (Memᴰ.tail m)))
       where
-        new : any (within K) F ≡ false
+        new : list_any (within K) F ≡ false
         new = ⊎_elim
             (λ e. let r = any_in (within K) F e in absurd (omega (arith, a K r.0 (Memᴰ.head refl) (Memᴰ.tail r.1) r.2, All-in (λ L. K < L) o.0 r.1)))
             (λ e. e)
-            (cases_Bool (any (within K) F))
+            (cases_Bool (list_any (within K) F))
 
 pub test_normal : (F : List ℕ) → IsStrictlyIncreasing F → none_within F ≡ true → Normal F
 test_normal F c t = record { rising = c; apart = λ K L k l e. go F (climbs_ordered F c) t K L k l e }
@@ -83,9 +82,9 @@ test_normal F c t = record { rising = c; apart = λ K L k l e. go F (climbs_orde
     go [] o t K L k l e = elim k [ ]
     go (M ∷ F) o t K L (Memᴰ.head p) (Memᴰ.head q) e = p ∙ sym q
     go (M ∷ F) o t K L (Memᴰ.head p) (Memᴰ.tail l) e =
-        absurd (both_ways (any (within M) F) (not-true (any (within M) F) (and_parts (not (any (within M) F)) (none_within F) t).0) (in_any (within M) l (ap (λ x. within x L) (sym p) ∙ e)))
+        absurd (both_ways (list_any (within M) F) (not-true (list_any (within M) F) (and_parts (not (list_any (within M) F)) (none_within F) t).0) (in_any (within M) l (ap (λ x. within x L) (sym p) ∙ e)))
     go (M ∷ F) o t K L (Memᴰ.tail k) (Memᴰ.head q) e = absurd (omega (arith, All-in (λ y. M < y) o.0 k, within_le K L e))
-    go (M ∷ F) o t K L (Memᴰ.tail k) (Memᴰ.tail l) e = go F o.1 (and_parts (not (any (within M) F)) (none_within F) t).1 K L k l e
+    go (M ∷ F) o t K L (Memᴰ.tail k) (Memᴰ.tail l) e = go F o.1 (and_parts (not (list_any (within M) F)) (none_within F) t).1 K L k l e
 
 -- ---- an offer keeps the form
 
@@ -136,9 +135,9 @@ placed_rising C (L ∷ F) r new = go (ltb C L) refl (placed_rising C F r.1 (λ K
     go true e ih = let h : C < L = ltb-true C L e in ((h, All-weaker (λ y. L < y) (λ y. C < y) (λ y q. omega arith) F r.0), r)
     go false e ih = (placed-all (λ y. L < y) C F (omega (arith, ltb-false C L e, new L (Memᴰ.head refl))) r.0, ih)
 
-module _ (C : ℕ) (F : List ℕ) (n : Normal F) (new : any (λ K. within K C) F ≡ false) where
+module _ (C : ℕ) (F : List ℕ) (n : Normal F) (new : list_any (λ K. within K C) F ≡ false) where
   none : (K : ℕ) → Memᴰ K F → within K C ≡ true → ⊥
-  none K m s = both_ways (any (λ K. within K C) F) new (in_any (λ K. within K C) m s)
+  none K m s = both_ways (list_any (λ K. within K C) F) new (in_any (λ K. within K C) m s)
 
   pick : (K L : ℕ) → (K ≡ C) ⊎ Memᴰ K (outside C F) → (L ≡ C) ⊎ Memᴰ L (outside C F) → within K L ≡ true → K ≡ L
   pick K L (inl p) (inl q) s = p ∙ sym q
@@ -157,16 +156,16 @@ module _ (C : ℕ) (F : List ℕ) (n : Normal F) (new : any (λ K. within K C) F
 module _ (limit : ℕ) where
   pub offer_normal : (C : ℕ) (F : List ℕ) → Normal F → Given (offer limit C F) Normal
   unfolding offer
-  offer_normal C F n = go (any (λ K. within K C) F) refl (ltb (length (outside C F)) limit)
+  offer_normal C F n = go (list_any (λ K. within K C) F) refl (ltb (length (outside C F)) limit)
     where
-      go : (b : Bool) → any (λ K. within K C) F ≡ b → (d : Bool) → Given (cond b (Some F) (cond d (Some (placed C (outside C F))) None)) Normal
+      go : (b : Bool) → list_any (λ K. within K C) F ≡ b → (d : Bool) → Given (cond b (Some F) (cond d (Some (placed C (outside C F))) None)) Normal
       go true e d = n
       go false e true = entered_normal C F n e
       go false e false = tt
 
   pub offer_all_lem : (P : ℕ → Type 0) (C : ℕ) (F : List ℕ) → P C → AllByRecursion P F → Given (offer limit C F) (AllByRecursion P)
   unfolding offer
-  offer_all_lem P C F p a = go (any (λ K. within K C) F) (ltb (length (outside C F)) limit)
+  offer_all_lem P C F p a = go (list_any (λ K. within K C) F) (ltb (length (outside C F)) limit)
     where
       go : (b d : Bool) → Given (cond b (Some F) (cond d (Some (placed C (outside C F))) None)) (AllByRecursion P)
       go true d = a
@@ -187,7 +186,7 @@ nil_normal = record { rising = ordered_climbs [] tt; apart = λ K L m k s. elim 
 pub one_normal : (C : ℕ) → Normal (C ∷ [])
 one_normal C = record { rising = ordered_climbs (C ∷ []) (tt, tt); apart = λ K L m k s. Memᴰ.eq_of_singleton m ∙ sym (Memᴰ.eq_of_singleton k) }
 
--- ---- what is items are the smallest clauses
+-- ---- what is held are the smallest clauses
 
 in_outside : (C : ℕ) (F : List ℕ) (K : ℕ) → Memᴰ K F → within C K ≡ false → Memᴰ K (outside C F)
 in_outside C [] K m n = elim m [ ]
@@ -211,7 +210,7 @@ in_placed C (L ∷ F) K o = go (ltb C L) o (in_placed C F K)
     go false (inr (Memᴰ.head q)) ih = Memᴰ.head q
     go false (inr (Memᴰ.tail m)) ih = Memᴰ.tail (ih (inr m))
 
-pub held_smallest : (C : ℕ) (F : List ℕ) → Normal F → any (λ K. within K C) F ≡ true → SmallestOf F C F
+pub held_smallest : (C : ℕ) (F : List ℕ) → Normal F → list_any (λ K. within K C) F ≡ true → SmallestOf F C F
 held_smallest C F n h K = (
   λ m. (inl m, λ L o e. least m L o e),
   λ p. back p.0 p.1,
@@ -231,14 +230,14 @@ held_smallest C F n h K = (
     back (inl m) s = m
     back (inr q) s = Memᴰ.cast (sym (s w.0 (inl w.1) (ap (within w.0) q ∙ w.2))) w.1
 
-pub entered_smallest : (C : ℕ) (F : List ℕ) → Normal F → any (λ K. within K C) F ≡ false → SmallestOf F C (placed C (outside C F))
+pub entered_smallest : (C : ℕ) (F : List ℕ) → Normal F → list_any (λ K. within K C) F ≡ false → SmallestOf F C (placed C (outside C F))
 entered_smallest C F n new K = (
   λ m. forth (placed_in C (outside C F) K m),
   λ p. back p.0 p.1 (cases_Bool (within C K)),
 )
   where
     none_in : (L : ℕ) → Memᴰ L F → within L C ≡ true → ⊥
-    none_in L m s = both_ways (any (λ K. within K C) F) new (in_any (λ K. within K C) m s)
+    none_in L m s = both_ways (list_any (λ K. within K C) F) new (in_any (λ K. within K C) m s)
 
     forth : (K ≡ C) ⊎ Memᴰ K (outside C F) → (Memᴰ K F ⊎ (K ≡ C)) × ((L : ℕ) → Memᴰ L F ⊎ (L ≡ C) → within L K ≡ true → L ≡ K)
     forth (inl q) = (inr q, λ L o e. least L o e)

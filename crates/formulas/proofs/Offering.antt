@@ -1,14 +1,13 @@
 -- Where an offered clause stands, and what is left of the others.
-use Rattle.std.proofs.Common.{◌≡◌, ℕ, zero, suc, ◌+◌, ◌-◌, ◌<◌, ◌≤◌, Bool, true, false, cond, not, ◌&&◌, ◌||◌, ltb, List, [], ◌∷◌, ◌++◌, length, get_or, take, drop, Some, None, sym, refl, ap, ◌∙◌, subst, ⊎_elim, arith}
-use Rattle.std.specs.List.{AllByRecursion}
+use Rattle.std.proofs.Common.{◌≡◌, ℕ, zero, suc, ◌+◌, ◌<◌, ◌≤◌, Bool, true, false, cond, not, ◌&&◌, ◌||◌, ltb, List, [], ◌∷◌, ◌++◌, length, get_or, take, drop, Some, None, sym, refl, ap, ◌∙◌, subst, ⊎_elim, arith}
+use Rattle.std.specs.List.{AllByRecursion, list_any}
 use Rattle.std.proofs.lemmas.List.Elements.{filter-append, filter_more}
 use Rattle.std.proofs.ByRecursion.{All-weaker, All-more, all_kept_by}
 use Rattle.std.proofs.lemmas.List.{take-append-drop, length-take-le, get_or_default, append_assoc, append-nil, length-append, length_push}
-use Rattle.std.proofs.lemmas.Bool.{ltb-true, ltb-false, lt-ltb, le-ltb, false≢true, cases_lt, or_right, or_from, cond-true, cond-false, not_from_false, both_ways}
+use Rattle.std.proofs.lemmas.Bool.{ltb-false, lt-ltb, le-ltb, false≢true, cases_lt, or_right, or_from, cond-true, cond-false, not_from_false, both_ways}
 use Rattle.foundation.specs.declared.bounded.Bounded.{Bounded}
 use Rattle.foundation.specs.Bounds.{items}
 use Rattle.foundation.specs.Sets.{within, hits}
-use Rattle.foundation.specs.Tests.{any}
 use Rattle.foundation.specs.Laws.Bounds.{length_items}
 use Rattle.formulas.specs.Clauses.{entering, Stands, AndAlso, SmallestOf}
 use Rattle.formulas.specs.Formulas.{meets, Normal, outside, placed, offer}
@@ -25,9 +24,9 @@ Passed C F i = (i ≤ length F) × AllByRecursion (λ K. (within K C ≡ false) 
 not_within : (K C : ℕ) → C < K → within K C ≡ false
 not_within K C h = elim (within K C) as (λ b. within K C ≡ b → b ≡ false) [ true ↦ (λ e. absurd (omega (arith, within_le K C e))) | false ↦ (λ e. refl) ] refl
 
-none_below : (C : ℕ) (F : List ℕ) → AllByRecursion (λ K. C < K) F → any (λ K. within K C) F ≡ false
+none_below : (C : ℕ) (F : List ℕ) → AllByRecursion (λ K. C < K) F → list_any (λ K. within K C) F ≡ false
 none_below C [] a = refl
-none_below C (K ∷ F) a = or_from (within K C) (any (λ K. within K C) F) (not_within K C a.0) (none_below C F a.1)
+none_below C (K ∷ F) a = or_from (within K C) (list_any (λ K. within K C) F) (not_within K C a.0) (none_below C F a.1)
 
 placed_first : (C : ℕ) (F : List ℕ) → AllByRecursion (λ K. C < K) F → placed C F ≡ C ∷ F
 placed_first C [] a = refl
@@ -52,20 +51,20 @@ stands_at C (K ∷ F) (suc i) o p h =
     let s = stands_at C F i o.1 (omega (arith, p.0), p.1.1) (λ l. h (omega arith)) in
     let l : K < C = p.1.0.1 in
     record {
-      new = or_from (within K C) (any (λ K. within K C) F) p.1.0.0 s.new;
+      new = or_from (within K C) (list_any (λ K. within K C) F) p.1.0.0 s.new;
       within_list = p.0;
       front = outside_keeps C K (take i F) l ∙ ap (λ x. K ∷ x) s.front;
       is = ap (placed C) (outside_keeps C K F l) ∙ cond-false (ltb C K) (C ∷ K ∷ outside C F) (K ∷ placed C (outside C F)) (le-ltb C K (omega arith)) ∙ ap (λ x. K ∷ x) s.is;
     }
 
 module _ (C : ℕ) (F : List ℕ) (i : ℕ) (h : i < length F) (K : ℕ) (is : K ≡ get_or F i K) (p : Passed C F i) where
-  pub spot_held : within K C ≡ true → any (λ L. within L C) F ≡ true
+  pub spot_held : within K C ≡ true → list_any (λ L. within L C) F ≡ true
   spot_held e = held F i h (ap (λ x. within x C) (sym is) ∙ e)
     where
-      held : (F : List ℕ) (i : ℕ) → i < length F → within (get_or F i K) C ≡ true → any (λ L. within L C) F ≡ true
+      held : (F : List ℕ) (i : ℕ) → i < length F → within (get_or F i K) C ≡ true → list_any (λ L. within L C) F ≡ true
       held [] i h e = absurd (omega arith)
-      held (L ∷ F) zero h e = ap (λ b. b || any (λ L. within L C) F) e
-      held (L ∷ F) (suc i) h e = or_right (within L C) (any (λ L. within L C) F) (held F i (omega arith) e)
+      held (L ∷ F) zero h e = ap (λ b. b || list_any (λ L. within L C) F) e
+      held (L ∷ F) (suc i) h e = or_right (within L C) (list_any (λ L. within L C) F) (held F i (omega arith) e)
 
   pub passed_more : within K C ≡ false → ltb C K ≡ false → Passed C F (i + 1)
   passed_more w l =
@@ -134,9 +133,9 @@ module _ (C : ℕ) (F : List ℕ) (at : ℕ) (h : at ≤ length F) where
 -- ---- how an offer comes out
 
 module _ (C : ℕ) (F : List ℕ) where
-  pub offer_held : any (λ K. within K C) F ≡ true → offer 64 C F ≡ Some F
+  pub offer_held : list_any (λ K. within K C) F ≡ true → offer 64 C F ≡ Some F
   unfolding offer
-  offer_held e = cond-true (any (λ K. within K C) F) (Some F) (cond (ltb (length (outside C F)) 64) (Some (placed C (outside C F))) None) e
+  offer_held e = cond-true (list_any (λ K. within K C) F) (Some F) (cond (ltb (length (outside C F)) 64) (Some (placed C (outside C F))) None) e
 
   module _ (i : ℕ) (s : Stands C F i) where
     outside_split : outside C F ≡ take i F ++ outside C (drop i F)
@@ -150,13 +149,13 @@ module _ (C : ℕ) (F : List ℕ) where
     pub offer_full : 64 < length (entering C F i) → offer 64 C F ≡ None
     unfolding offer
     offer_full h =
-        cond-false (any (λ K. within K C) F) (Some F) (cond (ltb (length (outside C F)) 64) (Some (placed C (outside C F))) None) s.new
+        cond-false (list_any (λ K. within K C) F) (Some F) (cond (ltb (length (outside C F)) 64) (Some (placed C (outside C F))) None) s.new
         ∙ cond-false (ltb (length (outside C F)) 64) (Some (placed C (outside C F))) None (le-ltb (length (outside C F)) 64 (omega (arith, outside_long)))
 
     pub offer-entered : (b : Bounded ℕ 64) → items b ≡ entering C F i → offer 64 C F ≡ Some (items b)
     unfolding offer
     offer-entered b e =
-        cond-false (any (λ K. within K C) F) (Some F) (cond (ltb (length (outside C F)) 64) (Some (placed C (outside C F))) None) s.new
+        cond-false (list_any (λ K. within K C) F) (Some F) (cond (ltb (length (outside C F)) 64) (Some (placed C (outside C F))) None) s.new
         ∙ cond-true (ltb (length (outside C F)) 64) (Some (placed C (outside C F))) None (lt-ltb (length (outside C F)) 64 (omega (arith, outside_long, ap length e, items_few b)))
         ∙ ap Some (s.is ∙ sym e)
 

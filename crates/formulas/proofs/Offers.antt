@@ -4,7 +4,7 @@ use mathlib.Core.Bool.{false≢true}
 use lib.Bits.{bit_or}
 use Rattle.std.proofs.lemmas.List.{length-map, length-append, drop_more}
 use Rattle.foundation.specs.Sets.{within}
-use Rattle.foundation.specs.Tests.{any}
+use Rattle.std.specs.List.{list_any}
 use Rattle.formulas.specs.declared.fault.Overflow.{Overflow}
 use Rattle.formulas.specs.Clauses.{Offered, OfferedAll}
 use Rattle.formulas.specs.Steps.{bind}
@@ -53,7 +53,7 @@ module _ (limit : ℕ) where
 
 pub offer_some : (limit C : ℕ) (F : List ℕ) → Given (offer limit C F) (λ R. 1 ≤ length R)
 unfolding offer
-offer_some limit C F = go F (any (λ K. within K C) F) refl (ltb (length (outside C F)) limit)
+offer_some limit C F = go F (list_any (λ K. within K C) F) refl (ltb (length (outside C F)) limit)
   where
     one : (F : List ℕ) → 1 ≤ length (placed C F)
     one [] = omega arith
@@ -63,7 +63,7 @@ offer_some limit C F = go F (any (λ K. within K C) F) refl (ltb (length (outsid
         pick true = omega arith
         pick false = omega arith
 
-    go : (F : List ℕ) → (b : Bool) → any (λ K. within K C) F ≡ b → (d : Bool) → Given (cond b (Some F) (cond d (Some (placed C (outside C F))) None)) (λ R. 1 ≤ length R)
+    go : (F : List ℕ) → (b : Bool) → list_any (λ K. within K C) F ≡ b → (d : Bool) → Given (cond b (Some F) (cond d (Some (placed C (outside C F))) None)) (λ R. 1 ≤ length R)
     go [] true e d = absurd (false≢true e)
     go (K ∷ F) true e d = omega arith
     go F false e true = one (outside C F)

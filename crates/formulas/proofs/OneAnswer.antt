@@ -1,10 +1,9 @@
 -- The words fix the answer: what they allow is what reading by computing answers.
 use Rattle.std.proofs.Common.{◌≡◌, ℕ, zero, suc, ◌/◌, ◌<◌, ◌≤◌, Bool, true, false, List, [], ◌∷◌, length, is_some, Some, None, Ok, Err, Option, Result, sym, refl, ap, ◌∙◌, subst, ⊎_elim, arith}
 use mathlib.Core.List.{Memᴰ}
-use Rattle.std.specs.List.{slice_get}
+use Rattle.std.specs.List.{slice_get, list_all}
 use Rattle.std.proofs.lemmas.Option.{slice_get_past}
 use Rattle.std.proofs.lemmas.Bool.{cases_lt, cond-true, cond-false}
-use Rattle.foundation.specs.Tests.{all}
 use Rattle.foundation.specs.Laws.Tests.{in_all}
 use Rattle.rules.specs.Automata.{record_at}
 use Rattle.formulas.specs.declared.fault.RecordsFault.{RecordsFault}
@@ -53,7 +52,7 @@ module _ (bytes : List ℕ) (rs : List Entry) (s : Says bytes rs) where
       let w = nth_some rs i (omega (arith, s.count)) in
       (w.0, w.1, read_form (record_at bytes i) w.0 (s.forms i w.0 w.1))
 
-  all-formed : all formed (pieces bytes) ≡ true
+  all-formed : list_all formed (pieces bytes) ≡ true
   all-formed = in_all formed (pieces bytes) (λ b m.
       let n = member_nth b (pieces bytes) m in
       let p = piece_is bytes n.0 b n.1 in
@@ -83,11 +82,11 @@ module _ (bytes : List ℕ) (rs : List Entry) (s : Says bytes rs) where
 
 -- ---- where the words hold, the tests pass
 
-agree_passes : (rs : List Entry) → Agree rs → all (agreed rs) rs ≡ true
+agree_passes : (rs : List Entry) → Agree rs → list_all (agreed rs) rs ≡ true
 agree_passes rs agree = in_all (agreed rs) rs (λ r m.
     ap (λ o. names_owner o r.owner) (belongs_owner rs agree r.procedure r.owner (r, record { stands = m; names = refl }, refl)) ∙ names_same r.owner)
 
-named_passes : (rs : List Entry) → Named rs → all (bodied rs) rs ≡ true
+named_passes : (rs : List Entry) → Named rs → list_all (bodied rs) rs ≡ true
 named_passes rs named = in_all (bodied rs) rs (λ r m. in_all (recorded rs) r.body (symbol r m))
   where
     symbol : (r : Entry) → Memᴰ r rs → (s : Symbol) → Memᴰ s r.body → recorded rs s ≡ true

@@ -1,11 +1,10 @@
 -- What holds of the records of a procedure set.
 use Rattle.std.proofs.Common.{◌≡◌, ℕ, zero, suc, ◌<◌, ◌≤◌, Bool, true, false, cond, eqb, ◌⊎◌, List, [], ◌∷◌, map, length, is_some as option_is_some, Some, None, Option, sym, refl, ap, ◌∙◌, subst, inl, inr, ⊎_elim, arith}
 use mathlib.Core.List.{Memᴰ}
-use Rattle.std.specs.List.{slice_get}
+use Rattle.std.specs.List.{slice_get, list_all}
 use Rattle.std.proofs.lemmas.List.{length-map}
 use Rattle.std.proofs.lemmas.Bool.{cond-true, cond-false, eqb-true, eqb-false}
 use Rattle.foundation.specs.Bounds.{items}
-use Rattle.foundation.specs.Tests.{all}
 use Rattle.foundation.specs.Laws.Bounds.{length_items}
 use Rattle.foundation.specs.Laws.Tests.{all_in}
 use Rattle.formulas.specs.declared.procedure_set.ProcedureSet.{ProcedureSet}
@@ -128,7 +127,7 @@ names_same Field = refl
 pub agreed_owner : (rs : List Entry) (r : Entry) → agreed rs r ≡ true → owner_of rs r.procedure ≡ Some r.owner
 agreed_owner rs r e = names_true (owner_of rs r.procedure) r.owner e
 
-pub agree_from : (rs : List Entry) → all (agreed rs) rs ≡ true → Agree rs
+pub agree_from : (rs : List Entry) → list_all (agreed rs) rs ≡ true → Agree rs
 agree_from rs h x r s o p =
     let er : owner_of rs x ≡ Some r.owner = ap (owner_of rs) (sym o.names) ∙ agreed_owner rs r (all_in (agreed rs) o.stands h) in
     let es : owner_of rs x ≡ Some s.owner = ap (owner_of rs) (sym p.names) ∙ agreed_owner rs s (all_in (agreed rs) p.stands h) in
@@ -145,7 +144,7 @@ recorded_of rs x e = let o = is_some (owner_of rs x) e in let b = owner_belongs 
 pub of_recorded : (rs : List Entry) (x : ℕ) (r : Entry) → Of rs x r → recorded rs (Procedure x) ≡ true
 of_recorded rs x r o = ap option_is_some (owner_some rs x r o).1
 
-pub named_from : (rs : List Entry) → all (bodied rs) rs ≡ true → Named rs
+pub named_from : (rs : List Entry) → list_all (bodied rs) rs ≡ true → Named rs
 named_from rs h r x m n = recorded_of rs x (all_in (recorded rs) n (all_in (bodied rs) m h))
 
 -- ---- a procedure set

@@ -1,19 +1,11 @@
 -- Searches for the first of a list that fails a test: by std's words, and what was found.
 use Rattle.std.proofs.Common.{◌≡◌, ℕ, zero, suc, ◌+◌, ◌<◌, Bool, true, false, not, cond, ◌&&◌, List, [], ◌∷◌, map, Some, None, Option, refl, ap, ◌∙◌, subst, arith}
-use Rattle.std.specs.List.{slice_get, list_all, position}
+use Rattle.std.specs.List.{slice_get, list_all, position, list_all}
 use Rattle.std.proofs.lemmas.Iterator.Adapters.{position_from-zero}
 use Rattle.std.proofs.lemmas.Bool.{and_from, and_parts, cond-true, cond-false}
-use Rattle.foundation.specs.Tests.{all}
 use Rattle.formulas.specs.Searches.{first_bad}
 
 -- ---- the searches of the code, which are std's
-
-list_all_is : {X : Type 0} (p : X → Bool) (xs : List X) → list_all p xs ≡ all p xs
-list_all_is p [] = refl
-list_all_is p (x ∷ xs) = ap (λ b. p x && b) (list_all_is p xs)
-
-pub all_from : {X : Type 0} (p : X → Bool) (xs : List X) (r : Bool) → r ≡ list_all p xs → r ≡ all p xs
-all_from p xs r e = e ∙ list_all_is p xs
 
 first_bad-map : {X Y : Type 0} (good : Y → Bool) (f : X → Y) (i : ℕ) (xs : List X) → first_bad (λ x. good (f x)) i xs ≡ first_bad good i (map f xs)
 first_bad-map good f i [] = refl
@@ -26,22 +18,22 @@ first_bad_from good f xs r e = e ∙ position_from-zero (λ x. not (good (f x)))
 -- ---- what was found
 
 module _ {X : Type 0} (good : X → Bool) where
-  pub none_bad : (i : ℕ) (xs : List X) → first_bad good i xs ≡ None → all good xs ≡ true
+  pub none_bad : (i : ℕ) (xs : List X) → first_bad good i xs ≡ None → list_all good xs ≡ true
   none_bad i [] e = refl
   none_bad i (x ∷ xs) e = go (good x) refl (none_bad (i + 1) xs) e
     where
-      go : (t : Bool) → good x ≡ t → (first_bad good (i + 1) xs ≡ None → all good xs ≡ true) → cond (not t) (Some i) (first_bad good (i + 1) xs) ≡ None → (good x && all good xs) ≡ true
-      go true f below e = and_from (good x) (all good xs) f (below e)
+      go : (t : Bool) → good x ≡ t → (first_bad good (i + 1) xs ≡ None → list_all good xs ≡ true) → cond (not t) (Some i) (first_bad good (i + 1) xs) ≡ None → (good x && list_all good xs) ≡ true
+      go true f below e = and_from (good x) (list_all good xs) f (below e)
       go false f below e = let z : ◌≡◌ {A = ℕ} 0 1 = cc in absurd (omega arith)
 
   -- one that passes is left behind
   passes_on : (i : ℕ) (x : X) (xs : List X) → good x ≡ true → first_bad good i (x ∷ xs) ≡ first_bad good (i + 1) xs
   passes_on i x xs e = cond-false (not (good x)) (Some i) (first_bad good (i + 1) xs) (ap not e)
 
-  pub none_from : (i : ℕ) (xs : List X) → all good xs ≡ true → first_bad good i xs ≡ None
+  pub none_from : (i : ℕ) (xs : List X) → list_all good xs ≡ true → first_bad good i xs ≡ None
   none_from i [] e = refl
   none_from i (x ∷ xs) e =
-      let p = and_parts (good x) (all good xs) e in
+      let p = and_parts (good x) (list_all good xs) e in
       passes_on i x xs p.0 ∙ none_from (i + 1) xs p.1
 
   -- the element at k is the first that fails

@@ -1,9 +1,8 @@
 -- Winning sets: how they compose, and what the formula of a list of symbols says of them.
-use Rattle.std.proofs.Common.{◌≡◌, ℕ, ◌+◌, ◌-◌, ◌^◌, ◌<◌, ◌≤◌, Bool, true, false, ◌&&◌, ltb, ◌⊎◌, List, [], ◌∷◌, ◌++◌, length, get_or, drop, Some, None, Option, sym, refl, ap, ◌∙◌, inl, inr, arith}
+use Rattle.std.proofs.Common.{◌≡◌, ℕ, ◌^◌, ◌<◌, ◌≤◌, Bool, true, false, ◌&&◌, ltb, ◌⊎◌, List, [], ◌∷◌, ◌++◌, length, Some, None, Option, sym, refl, ap, ◌∙◌, inl, inr, arith}
 use mathlib.Core.Path.{fun_ext}
 use mathlib.Core.Bool.{and-true}
 use Rattle.std.proofs.lemmas.Nat.{pow_pos}
-use Rattle.std.proofs.lemmas.List.{drop_more, drop_all}
 use Rattle.std.proofs.lemmas.Bool.{lt-ltb, le-ltb, cases_lt}
 use Rattle.foundation.specs.Bits.{has, number}
 use Rattle.foundation.specs.Laws.Bits.{has-number, has_above, has-zero, number_lt, number_ext, number-has}
@@ -14,7 +13,7 @@ use Rattle.formulas.specs.declared.symbol.Symbol.{Symbol}
 use Rattle.formulas.specs.declared.symbol.Symbol.TheVariants.{Command, Procedure}
 use Rattle.formulas.specs.Formulas.{meets, leading, going_on, shift, then}
 use Rattle.formulas.specs.Rounds.{formula_at, shift_by, body_formula}
-use Rattle.formulas.specs.Winning.{Assignment, assigned, effects_where, after_effect, before_command, before_procedure, before_symbol, winning}
+use Rattle.formulas.specs.Winning.{Assignment, assigned, effects_where, after_effect, before_command, before_procedure, winning}
 use Rattle.formulas.proofs.Given.{Given, given_bind}
 use Rattle.formulas.proofs.Meets.{impossible-meets, shift-meets, then-meets}
 use Rattle.formulas.proofs.Monoids.{Monoid, command_known, command_lacking}

@@ -1,10 +1,9 @@
 -- Bytes are read as a record exactly where they are its bytes.
 use Rattle.std.proofs.Common.{◌≡◌, ℕ, zero, suc, ◌+◌, ◌-◌, ◌≤◌, Bool, true, false, cond, ◌&&◌, eqb, ltb, leb, List, [], ◌∷◌, ◌++◌, map, length, get_or, drop, replicate, Some, None, Option, sym, refl, ap, ◌∙◌, subst, arith}
 use Rattle.std.specs.Option.{option_map}
-use Rattle.std.specs.List.{AllByRecursion}
+use Rattle.std.specs.List.{AllByRecursion, list_all}
 use Rattle.std.proofs.lemmas.List.{take-append-drop, drop-drop, take_at, drop_at, length-take, length-drop, length-map, length-append, length-replicate}
 use Rattle.std.proofs.lemmas.Bool.{cond-true, cond-false, and_parts, and_from, eqb-true, leb-true, le-leb, ltb-true, lt-ltb, le-ltb}
-use Rattle.foundation.specs.Tests.{all}
 use Rattle.formulas.specs.declared.symbol.Owner.{Owner}
 use Rattle.formulas.specs.declared.symbol.Owner.TheVariants.{Station, Field}
 use Rattle.formulas.specs.declared.symbol.Symbol.{Symbol}
@@ -20,9 +19,9 @@ pub proper_fact : (s : Symbol) → proper s ≡ true → Proper s
 proper_fact (Command c) e = ltb-true c 16 e
 proper_fact (Procedure x) e = ltb-true x 32 e
 
-pub all-proper : (ss : List Symbol) → all proper ss ≡ true → AllByRecursion Proper ss
+pub all-proper : (ss : List Symbol) → list_all proper ss ≡ true → AllByRecursion Proper ss
 all-proper [] e = tt
-all-proper (s ∷ ss) e = let p = and_parts (proper s) (all proper ss) e in (proper_fact s p.0, all-proper ss p.1)
+all-proper (s ∷ ss) e = let p = and_parts (proper s) (list_all proper ss) e in (proper_fact s p.0, all-proper ss p.1)
 
 -- ---- what is read was written
 
@@ -57,10 +56,10 @@ symbols_written (b ∷ bs) ss e = go (symbols_written bs) (symbol_in b) refl (sy
         let k : ss ≡ s ∷ rest = cc in
         ap (λ c. c ∷ bs) (symbol_written b s (sym f)) ∙ ap (λ l. symbol_byte s ∷ l) (below rest (sym g)) ∙ ap (map symbol_byte) (sym k)
 
-filled : (bs : List ℕ) → all (λ b. eqb b 255) bs ≡ true → bs ≡ replicate (length bs) 255
+filled : (bs : List ℕ) → list_all (λ b. eqb b 255) bs ≡ true → bs ≡ replicate (length bs) 255
 filled [] e = refl
 filled (b ∷ bs) e =
-    let p = and_parts (eqb b 255) (all (λ b. eqb b 255) bs) e in
+    let p = and_parts (eqb b 255) (list_all (λ b. eqb b 255) bs) e in
     ap (λ c. c ∷ bs) (eqb-true b 255 p.0) ∙ ap (λ l. 255 ∷ l) (filled bs p.1)
 
 three : (bs : List ℕ) → 3 ≤ length bs → bs ≡ get_or bs 0 0 ∷ get_or bs 1 0 ∷ get_or bs 2 0 ∷ drop 3 bs
@@ -73,10 +72,10 @@ module _ (bs : List ℕ) (fits : framed bs ≡ true) where
   twelve : length bs ≡ 12
   twelve = eqb-true (length bs) 12 (and_parts (eqb (length bs) 12) _ fits).0
 
-  later : (ltb (get_or bs 0 0) 32 && (leb (get_or bs 2 0) 9 && all (λ b. eqb b 255) (fill_bytes bs))) ≡ true
+  later : (ltb (get_or bs 0 0) 32 && (leb (get_or bs 2 0) 9 && list_all (λ b. eqb b 255) (fill_bytes bs))) ≡ true
   later = (and_parts (eqb (length bs) 12) _ fits).1
 
-  last_two : (leb (get_or bs 2 0) 9 && all (λ b. eqb b 255) (fill_bytes bs)) ≡ true
+  last_two : (leb (get_or bs 2 0) 9 && list_all (λ b. eqb b 255) (fill_bytes bs)) ≡ true
   last_two = (and_parts (ltb (get_or bs 0 0) 32) _ later).1
 
   few : get_or bs 2 0 ≤ 9
@@ -142,7 +141,7 @@ symbols_again [] h = refl
 symbols_again (s ∷ ss) h =
     ap (λ o. bind o (λ s. option_map (λ ss. s ∷ ss) (symbols_in (map symbol_byte ss)))) (symbol_again s h.0) ∙ ap (option_map (λ ss. s ∷ ss)) (symbols_again ss h.1)
 
-filling : (n : ℕ) → all (λ b. eqb b 255) (replicate n 255) ≡ true
+filling : (n : ℕ) → list_all (λ b. eqb b 255) (replicate n 255) ≡ true
 filling zero = refl
 filling (suc n) = filling n
 
@@ -165,7 +164,7 @@ module _ (r : Entry) (range : InRange r) where
   read_again =
       ap (λ o. entry_from (record_bytes r) o (Some r.body)) (owner_again r.owner)
       ∙ ap (entry_from (record_bytes r) (owner_in (owner_byte r.owner))) (sym (ap symbols_in body_again ∙ symbols_again r.body range.symbols))
-      ∙ entry_framed (record_bytes r) (framed_from (record_bytes r) twelve_bytes range.known range.short (ap (all (λ b. eqb b 255)) fill_again ∙ filling (9 - length r.body)))
+      ∙ entry_framed (record_bytes r) (framed_from (record_bytes r) twelve_bytes range.known range.short (ap (list_all (λ b. eqb b 255)) fill_again ∙ filling (9 - length r.body)))
 
 pub read_form : (bs : List ℕ) (r : Entry) → RecordForm bs r → Some r ≡ entry_in bs
 read_form bs r f = read_again r f.range ∙ ap entry_in (sym f.bytes)

@@ -1,6 +1,6 @@
 -- Tests on the records of a set.
 use Rattle.std.specs.Prelude.{Bool, true, false, List, is_some, Some, None, Option}
-use Rattle.foundation.specs.Tests.{all}
+use Rattle.std.specs.List.{list_all}
 use Rattle.formulas.specs.declared.symbol.Owner.{Owner}
 use Rattle.formulas.specs.declared.symbol.Owner.TheVariants.{Station, Field}
 use Rattle.formulas.specs.declared.symbol.Symbol.{Symbol}
@@ -25,4 +25,4 @@ recorded rs (Procedure x) = is_some (owner_of rs x)
 
 -- each procedure in the body of r has a record
 abbrev pub bodied : List Entry → Entry → Bool
-bodied rs r = all (recorded rs) r.body
+bodied rs r = list_all (recorded rs) r.body

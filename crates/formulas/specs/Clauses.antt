@@ -3,7 +3,7 @@ use Rattle.std.specs.Prelude.{◌≡◌, ℕ, ◌≤◌, Bool, true, false, ◌&
 use mathlib.Core.List.{Memᴰ}
 use Rattle.foundation.specs.Bounds.{items}
 use Rattle.foundation.specs.Sets.{within, hits}
-use Rattle.foundation.specs.Tests.{any}
+use Rattle.std.specs.List.{list_any}
 use Rattle.formulas.specs.declared.clauses.Clauses.{Clauses}
 use Rattle.formulas.specs.declared.fault.Overflow.{Overflow}
 use Rattle.formulas.specs.Formulas.{meets, offer, offers, outside, placed}
@@ -17,14 +17,14 @@ entering C F i = take i F ++ (C ∷ outside C (drop i F))
 
 -- C is new to F, and i is its place in the rising order: no clause before it contains C
 pub record Stands (C : ℕ) (F : List ℕ) (i : ℕ) : Type 0 where
-  pub new : any (λ K. within K C) F ≡ false
+  pub new : list_any (λ K. within K C) F ≡ false
   pub within_list : i ≤ length F
   pub front : outside C (take i F) ≡ take i F
   pub is : placed C (outside C F) ≡ entering C F i
 
 -- where C stands in F; None where a clause of F lies within C, so that C says nothing new
 abbrev pub Spots : ℕ → List ℕ → Option ℕ → Type 0
-Spots C F None = any (λ K. within K C) F ≡ true
+Spots C F None = list_any (λ K. within K C) F ≡ true
 Spots C F (Some i) = Stands C F i
 
 -- what is left of the clauses F where C was offered

@@ -1,16 +1,16 @@
 -- Formulas: lists of clauses, each a set of effect numbers. Each clause is a choice of the station, each number in it one of the field.
 -- A formula meets a set A if every clause has a member in A. At most `limit` clauses may stand; where one more would, there is no result.
+-- `then` is a word of this file, so choices are written by `cond` here and not by if, then and else.
 use Rattle.std.specs.Prelude.{◌≡◌, ℕ, ◌^◌, ◌<◌, Bool, true, cond, not, ◌&&◌, List, [], ◌∷◌, ◌++◌, map, length, Some, None, filter, Option, bit_or, nat_lt}
 use mathlib.Core.List.{Memᴰ}
 use Rattle.std.specs.List.Sorted.{IsStrictlyIncreasing}
-use Rattle.std.specs.List.{AllByRecursion}
+use Rattle.std.specs.List.{AllByRecursion, list_any, list_all}
 use Rattle.foundation.specs.Sets.{within, members, gathered, hits}
-use Rattle.foundation.specs.Tests.{any, all}
 use Rattle.rules.specs.Tables.{Table, join_of}
 use Rattle.formulas.specs.Steps.{bind}
 
 abbrev pub meets : (ℕ → Bool) → List ℕ → Bool
-meets A F = all (hits A) F
+meets A F = list_all (hits A) F
 
 -- the formula that meets no set: the one clause without members
 abbrev pub impossible : List ℕ
@@ -30,7 +30,7 @@ pub record Normal (F : List ℕ) : Type 0 where
 -- as a test: no clause lies within a later one. Where clauses rise, no other can.
 abbrev pub none_within : List ℕ → Bool
 none_within [] = true
-none_within (K ∷ F) = not (any (within K) F) && none_within F
+none_within (K ∷ F) = not (list_any (within K) F) && none_within F
 
 -- every clause has only numbers below w
 abbrev pub BelowWidth : ℕ → List ℕ → Type 0
@@ -50,7 +50,7 @@ placed C (K ∷ F) = cond (nat_lt C K) (C ∷ K ∷ F) (K ∷ placed C F)
 module _ (limit : ℕ) where
   -- nothing happens if a clause lies within C; else the clauses that contain C leave, and C enters
   unfoldable pub offer : ℕ → List ℕ → Option (List ℕ)
-  offer C F = cond (any (λ K. within K C) F) (Some F) (cond (nat_lt (length (outside C F)) limit) (Some (placed C (outside C F))) None)
+  offer C F = cond (list_any (λ K. within K C) F) (Some F) (cond (nat_lt (length (outside C F)) limit) (Some (placed C (outside C F))) None)
 
   -- each of a list of clauses offered in order
   abbrev pub offers : List ℕ → List ℕ → Option (List ℕ)

@@ -1,7 +1,7 @@
 -- A record as twelve bytes: the procedure, its owner, the length of the body, the body, and 255 up to the end.
-use Rattle.std.specs.Prelude.{◌≡◌, ℕ, ◌+◌, ◌-◌, Bool, ◌&&◌, List, [], ◌∷◌, ◌++◌, map, length, take, drop, replicate, Some, None, Option, ◌==◌, nat_eq, nat_le, nat_lt, slice_index, if◌then◌else◌}
+use Rattle.std.specs.Prelude.{◌≡◌, ℕ, ◌+◌, ◌-◌, Bool, if◌then◌else◌, ◌&&◌, List, [], ◌∷◌, ◌++◌, map, length, take, drop, replicate, Some, None, Option, ◌==◌, nat_eq, nat_le, nat_lt, slice_index}
 use Rattle.std.specs.Option.{option_map}
-use Rattle.foundation.specs.Tests.{all}
+use Rattle.std.specs.List.{list_all}
 use Rattle.formulas.specs.declared.symbol.Owner.{Owner}
 use Rattle.formulas.specs.declared.symbol.Owner.TheVariants.{Station, Field}
 use Rattle.formulas.specs.declared.symbol.Symbol.{Symbol}
@@ -31,10 +31,13 @@ pub record RecordForm (bs : List ℕ) (r : Entry) : Type 0 where
 -- ---- by computing: the record that bytes say
 
 abbrev pub symbol_in : ℕ → Option Symbol
-symbol_in b = if nat_lt b 16 then Some (Command b) else (if nat_le 32 b && nat_lt b 64 then Some (Procedure (b - 32)) else None)
+symbol_in b =
+    if nat_lt b 16 then Some (Command b)
+    else if nat_le 32 b && nat_lt b 64 then Some (Procedure (b - 32))
+    else None
 
 abbrev pub owner_in : ℕ → Option Owner
-owner_in b = if b == 0 then Some Station else (if b == 1 then Some Field else None)
+owner_in b = if b == 0 then Some Station else if b == 1 then Some Field else None
 
 -- a symbol for each byte; None where a byte is none
 abbrev pub symbols_in : List ℕ → Option (List Symbol)
@@ -49,8 +52,11 @@ fill_bytes bs = drop (3 + slice_index bs 2) bs
 
 -- the length, the procedure, the length of the body and the bytes after it are as they should be
 abbrev pub framed : List ℕ → Bool
-framed bs = length bs == 12 && (nat_lt (slice_index bs 0) 32 && (nat_le (slice_index bs 2) 9 && all (λ b. nat_eq b 255) (fill_bytes bs)))
+framed bs = length bs == 12 && (nat_lt (slice_index bs 0) 32 && (nat_le (slice_index bs 2) 9 && list_all (λ b. nat_eq b 255) (fill_bytes bs)))
 
 -- None where the bytes have another form
 abbrev pub entry_in : List ℕ → Option Entry
-entry_in bs = if framed bs then bind (owner_in (slice_index bs 1)) (λ o. option_map (λ ss. record { procedure = slice_index bs 0; owner = o; body = ss }) (symbols_in (body_bytes bs))) else None
+entry_in bs =
+    if framed bs
+    then bind (owner_in (slice_index bs 1)) (λ o. option_map (λ ss. record { procedure = slice_index bs 0; owner = o; body = ss }) (symbols_in (body_bytes bs)))
+    else None

@@ -1,5 +1,5 @@
 -- What reading a procedure set answers.
-use Rattle.std.specs.Prelude.{◌≡◌, ℕ, ◌/◌, ◌%◌, ◌<◌, ◌≤◌, Bool, ◌&&◌, List, [], ◌∷◌, map, length, is_some, Some, None, Ok, Err, Option, Result, ◌==◌, nat_le, nat_lt, if◌then◌else◌}
+use Rattle.std.specs.Prelude.{◌≡◌, ℕ, ◌/◌, ◌%◌, ◌<◌, ◌≤◌, Bool, if◌then◌else◌, ◌&&◌, List, [], ◌∷◌, map, length, is_some, Some, None, Ok, Err, Option, Result, ◌==◌, nat_le, nat_lt}
 use mathlib.Core.List.{Memᴰ}
 use Rattle.std.specs.List.{range_with_len, slice_get}
 use Rattle.std.specs.Result.{result_map_both as by_cases}
@@ -58,7 +58,10 @@ said [] = []
 said (bs ∷ ps) = before (entry_in bs) (said ps)
 
 abbrev pub read_records : List ℕ → Result (List Entry) RecordsFault
-read_records bytes = if whole bytes then unless Form (first_bad formed 0 (pieces bytes)) (Ok (said (pieces bytes))) else Err (Length (length bytes / 12))
+read_records bytes =
+    if whole bytes
+    then unless Form (first_bad formed 0 (pieces bytes)) (Ok (said (pieces bytes)))
+    else Err (Length (length bytes / 12))
 
 -- the second pass looks at the owners, the third at the bodies
 abbrev pub checked : List Entry → Result (List Entry) RecordsFault

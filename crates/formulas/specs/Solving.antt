@@ -1,10 +1,9 @@
 -- Solving: rounds until one is equal to the one before it.
-use Rattle.std.specs.Prelude.{◌≡◌, ℕ, zero, suc, ◌+◌, ◌<◌, ◌≤◌, Bool, true, ◌&&◌, List, Some, None, Ok, Err, Option, Result, ◌≢◌, nat_le, nat_lt, if◌then◌else◌}
+use Rattle.std.specs.Prelude.{◌≡◌, ℕ, zero, suc, ◌+◌, ◌<◌, ◌≤◌, Bool, true, if◌then◌else◌, ◌&&◌, List, Some, None, Ok, Err, Option, Result, ◌≢◌, nat_le, nat_lt}
 use mathlib.Core.List.{Memᴰ}
 use Rattle.std.specs.Cmp.Lexicographic.{pointwise}
-use Rattle.std.specs.List.{slice_get}
+use Rattle.std.specs.List.{slice_get, list_all}
 use Rattle.std.specs.Str.{bytes_eq}
-use Rattle.foundation.specs.Tests.{all}
 use Rattle.rules.specs.Tables.{Table}
 use Rattle.formulas.specs.declared.fault.SolveFault.{SolveFault}
 use Rattle.formulas.specs.declared.fault.SolveFault.TheVariants.{Allowance, UnknownCommand, TooManyClauses, Unsettled}
@@ -36,7 +35,7 @@ known n (Command c) = nat_lt c n
 known n (Procedure x) = true
 
 abbrev pub known_body : ℕ → Entry → Bool
-known_body n r = all (known n) r.body
+known_body n r = list_all (known n) r.body
 
 -- refused at the first record with a command that the rule lacks
 abbrev pub unless_lacking : Option ℕ → Result Settled SolveFault → Result Settled SolveFault
@@ -50,7 +49,10 @@ module _ (rs : List Entry) (t : Table) where
   settle (suc n) k L = settle_on (next_round 64 rs t L) L k (settle n (k + 1))
 
   abbrev pub solved : ℕ → Result Settled SolveFault
-  solved allowance = if nat_lt 0 allowance && nat_le allowance 1000 then unless_lacking (first_bad (known_body t.commands) 0 rs) (settle allowance 0 first_round) else Err Allowance
+  solved allowance =
+      if nat_lt 0 allowance && nat_le allowance 1000
+      then unless_lacking (first_bad (known_body t.commands) 0 rs) (settle allowance 0 first_round)
+      else Err Allowance
 
   -- ---- in words
 

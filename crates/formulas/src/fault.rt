@@ -19,11 +19,11 @@ pub enum RecordsFault {
     Unrecorded(usize),
 }
 
-impl RecordsFault {
-    pub fn refusal(self) -> Refusal
-        ensures { result ≡ records_refusal self }
-    {
-        let (number, place) = match self {
+impl From<RecordsFault> for Refusal {
+    ghost from_gives = { λ f r. r ≡ records_refusal f };
+
+    fn from(fault: RecordsFault) -> Refusal {
+        let (number, place) = match fault {
             RecordsFault::Length(whole) => (1, whole),
             RecordsFault::Form(record) => (2, record),
             RecordsFault::Owner(record) => (3, record),
@@ -50,11 +50,11 @@ pub enum SolveFault {
     Unsettled(u32),
 }
 
-impl SolveFault {
-    pub fn refusal(self) -> Refusal
-        ensures { result ≡ solve_refusal self }
-    {
-        let (number, place) = match self {
+impl From<SolveFault> for Refusal {
+    ghost from_gives = { λ f r. r ≡ solve_refusal f };
+
+    fn from(fault: SolveFault) -> Refusal {
+        let (number, place) = match fault {
             SolveFault::Allowance => (8, 0),
             SolveFault::UnknownCommand(record) => (10, record),
             SolveFault::TooManyClauses(procedure) => (11, usize::from(procedure)),

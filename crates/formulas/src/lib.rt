@@ -4,6 +4,7 @@
 mod clauses;
 pub mod fault;
 pub mod formula;
+mod problem;
 pub mod procedure_set;
 pub mod record;
 mod round;

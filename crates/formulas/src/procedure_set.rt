@@ -1,7 +1,7 @@
 //! Procedure sets: the records of all procedures, by number.
 ghost use Rattle.std.specs.Prelude.{◌≡◌, ◌<◌, true, map, length};
 ghost use Rattle.foundation.specs.Bounds.{items};
-ghost use Rattle.foundation.specs.Tests.{all};
+ghost use Rattle.std.specs.List.{list_all};
 ghost use Rattle.formulas.specs.Checks.{agreed, bodied};
 ghost use Rattle.formulas.specs.Entries.{entry_of};
 
@@ -19,6 +19,6 @@ const MOST_RECORDS: usize = 128;
 pub struct ProcedureSet {
     records: Bounded<Record, MOST_RECORDS>,
     ghost some: { 0 < length (items records) },
-    ghost agree: { all (agreed (map entry_of (items records))) (map entry_of (items records)) ≡ true },
-    ghost named: { all (bodied (map entry_of (items records))) (map entry_of (items records)) ≡ true },
+    ghost agree: { list_all (agreed (map entry_of (items records))) (map entry_of (items records)) ≡ true },
+    ghost named: { list_all (bodied (map entry_of (items records))) (map entry_of (items records)) ≡ true },
 }

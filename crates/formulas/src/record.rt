@@ -1,7 +1,7 @@
 //! Records: one body of a procedure, and the side that the procedure belongs to.
 ghost use Rattle.std.specs.Prelude.{◌≡◌, ◌<◌, true};
 ghost use Rattle.foundation.specs.Bounds.{items};
-ghost use Rattle.foundation.specs.Tests.{all};
+ghost use Rattle.std.specs.List.{list_all};
 ghost use Rattle.formulas.specs.Symbols.{proper};
 
 use crate::symbol::{Owner, Procedure, Symbol};
@@ -22,5 +22,5 @@ pub struct Record {
     owner: Owner,
     body: Bounded<Symbol, LONGEST>,
     ghost known: { procedure < 32 },
-    ghost sound: { all proper (items body) ≡ true },
+    ghost sound: { list_all proper (items body) ≡ true },
 }

@@ -1,6 +1,6 @@
 //! Solving a procedure set under a rule: rounds until one is equal to the one before it.
 ghost use Rattle.std.specs.Prelude.{◌≡◌, List, IfOk};
-ghost use Rattle.foundation.specs.Tests.{all};
+ghost use Rattle.std.specs.List.{list_all};
 ghost use Rattle.rules.specs.Surveys.{view};
 ghost use Rattle.formulas.specs.Equations.{SettledLists, MeetsByTrees};
 ghost use Rattle.formulas.specs.FormulaViews.{formula_list, found};
@@ -13,6 +13,7 @@ ghost use Rattle.formulas.specs.Symbols.{Entry};
 
 use crate::fault::{Overflow, SolveFault};
 use crate::formula::Formula;
+use crate::problem::Problem;
 use crate::procedure_set::ProcedureSet;
 use crate::round::Round;
 use crate::symbol::{Procedure, Symbol};
@@ -46,7 +47,7 @@ impl Solution {
         if let Some(record) = first_lacking(set, table.commands()) {
             return Err(SolveFault::UnknownCommand(record));
         }
-        settle_within(set, table, allowance)
+        settle_within(&Problem { set, table }, allowance)
     }
 
     /// The number of the settled round.
@@ -80,16 +81,12 @@ impl ClauseLists for Solution {
     }
 }
 
-fn settle_within(
-    set: &ProcedureSet,
-    table: &EffectTable,
-    allowance: u32,
-) -> Result<Solution, SolveFault>
-    ensures { solution_viewed result ≡ settle (entries set.now) (view table.now) allowance 0 first_round }
+fn settle_within(problem: &Problem<'_>, allowance: u32) -> Result<Solution, SolveFault>
+    ensures { solution_viewed result ≡ settle (entries problem.now.set.now) (view problem.now.table.now) allowance 0 first_round }
 {
     let mut round = Round::first();
     for done in 0..allowance {
-        let next = round.next(set, table)?;
+        let next = round.next(problem)?;
         if next == round {
             return Ok(Solution {
                 round: next,
@@ -111,7 +108,7 @@ fn first_lacking(set: &ProcedureSet, commands: u8) -> Option<usize>
 }
 
 fn all_known(body: &[Symbol], commands: u8) -> bool
-    ensures { result ≡ all (known commands) body.now }
+    ensures { result ≡ list_all (known commands) body.now }
 {
     body.iter().all(|symbol| is_known(*symbol, commands))
 }

@@ -65,32 +65,35 @@ fn before(table: &EffectTable, k: EffectNumber, set: EffectSet) -> EffectSet
     effects_where(table, |e| leads(table, e, k, set))
 }
 
-/// The effects after which the field wins a procedure and comes into the set.
-fn winning_before<L: ClauseLists>(
-    table: &EffectTable,
-    lists: &L,
-    p: Procedure,
-    set: EffectSet,
-) -> EffectSet
-    ensures { result ≡ before_procedure (view table.now) (assigned (L.ClauseLists.lists lists.now) p) set }
-{
-    effects_where(table, |e| lists.all_meet(p, after(table, e, set)))
+/// Lists of clauses for the procedures, over the effects of a table.
+#[derive(Clone, Copy)]
+struct Assignment<'a, L> {
+    table: &'a EffectTable,
+    lists: &'a L,
 }
 
-fn before_symbol<L: ClauseLists>(
-    table: &EffectTable,
-    lists: &L,
-    symbol: Symbol,
-    set: EffectSet,
-) -> EffectSet
-    ensures { result ≡ before_symbol (view table.now) (assigned (L.ClauseLists.lists lists.now)) symbol set }
-{
-    match symbol {
-        Symbol::Command(c) => match table.command(c) {
-            Some(effect) => before(table, effect, set),
-            None => EffectSet::empty(),
-        },
-        Symbol::Procedure(p) => winning_before(table, lists, p, set),
+impl<L: ClauseLists> Assignment<'_, L> {
+    /// The effects after which the field wins a procedure and comes into the set.
+    fn before_procedure(&self, p: Procedure, set: EffectSet) -> EffectSet
+        ensures { result ≡ before_procedure (view self.now.table.now) (assigned (L.ClauseLists.lists self.now.lists.now) p) set }
+    {
+        effects_where(
+            self.table,
+            |e| self.lists.all_meet(p, after(self.table, e, set)),
+        )
+    }
+
+    /// The effects after which the field wins a symbol and comes into the set.
+    fn before_symbol(&self, symbol: Symbol, set: EffectSet) -> EffectSet
+        ensures { result ≡ before_symbol (view self.now.table.now) (assigned (L.ClauseLists.lists self.now.lists.now)) symbol set }
+    {
+        match symbol {
+            Symbol::Command(c) => match self.table.command(c) {
+                Some(effect) => before(self.table, effect, set),
+                None => EffectSet::empty(),
+            },
+            Symbol::Procedure(p) => self.before_procedure(p, set),
+        }
     }
 }
 
@@ -104,9 +107,10 @@ pub fn winning_set<L: ClauseLists>(
     ensures value { result ≡ winning (view table.now) (assigned (L.ClauseLists.lists lists.now)) target list.now }
     ensures trees { (rs : List Entry) → SettledLists rs (view table.now) (L.ClauseLists.lists lists.now) → target < 2 ^ (view table.now).count → WonByTrees rs (view table.now) target list.now result }
 {
+    let assignment = Assignment { table, lists };
     let mut winning = target;
     for symbol in list.iter().rev() {
-        winning = before_symbol(table, lists, *symbol, winning);
+        winning = assignment.before_symbol(*symbol, winning);
     }
     winning
 }

@@ -2,5 +2,4 @@ pub mod Bits
 pub mod Bounds
 pub mod Refusals
 pub mod Sets
-pub mod Tests
 pub mod Laws

@@ -61,9 +61,6 @@ module _ (rs : List Entry) (L : List (List ℕ)) where
 
   -- ---- gathered by the number of their procedures
 
-  pub telling_none : (n : ℕ) (ws : List Row) → ws ≡ rows_below rs L n → None ≡ owner_of rs n → ws ≡ rows_below rs L (n + 1)
-  telling_none n ws e o = rw add-one (e ∙ sym (append-nil (rows_below rs L n)) ∙ ap (λ v. rows_below rs L n ++ row_of L n v) o)
-
   pub telling_more : (n : ℕ) (o : Owner) (k : ℕ) (ws vs : List Row) → ws ≡ rows_below rs L n → Some o ≡ owner_of rs n → k ≡ length (formula_at L n) → vs ≡ ws ++ record { procedure = n; owner = o; clauses = k } ∷ [] → vs ≡ rows_below rs L (n + 1)
   telling_more n o k ws vs e own few f =
       let row : ℕ → Row = λ j. record { procedure = n; owner = o; clauses = j } in

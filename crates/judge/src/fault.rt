@@ -47,15 +47,15 @@ impl From<SolveFault> for JudgeFault {
     }
 }
 
-impl JudgeFault {
-    pub fn refusal(self) -> Refusal
-        ensures { result ≡ judge_refusal self }
-    {
-        match self {
-            JudgeFault::Rule(f) => f.refusal(),
-            JudgeFault::Records(f) => f.refusal(),
-            JudgeFault::Effects(f) => f.refusal(),
-            JudgeFault::Solve(f) => f.refusal(),
+impl From<JudgeFault> for Refusal {
+    ghost from_gives = { λ f r. r ≡ judge_refusal f };
+
+    fn from(fault: JudgeFault) -> Refusal {
+        match fault {
+            JudgeFault::Rule(f) => f.into(),
+            JudgeFault::Records(f) => f.into(),
+            JudgeFault::Effects(f) => f.into(),
+            JudgeFault::Solve(f) => f.into(),
         }
     }
 }

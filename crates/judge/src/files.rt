@@ -13,29 +13,18 @@ pub fn read_front(rt: &HostRuntime, path: &str) -> io::Result<Option<Vec<u8>>>
     ensures { IfOk result (λ front. IfSome front (λ bytes. vec_len bytes ≤ 16384)) }
 {
     match File::open(rt, path) {
-        Ok(mut file) => Ok(Some(front_of(rt, &mut file)?)),
-        Err(e) => {
-            if e.kind() == ErrorKind::NotFound {
-                Ok(None)
-            } else {
-                Err(e)
-            }
-        }
+        Ok(file) => front_of(rt, file).map(Some),
+        Err(e) if e.kind() == ErrorKind::NotFound => Ok(None),
+        Err(e) => Err(e),
     }
 }
 
-fn front_of(rt: &HostRuntime, file: &mut File) -> io::Result<Vec<u8>>
+fn front_of(rt: &HostRuntime, file: File) -> io::Result<Vec<u8>>
     ensures { IfOk result (λ bytes. vec_len bytes ≤ 16384) }
 {
-    let mut bytes = vec![in rt.alloc(); 0u8; MOST_BYTES]?;
-    let mut len = 0;
-    while len < bytes.len() {
-        let read = file.read(&mut bytes[len..])?;
-        if read == 0 {
-            break;
-        }
-        len += read;
-    }
-    bytes.truncate(len);
+    let mut bytes = Vec::new(rt.alloc());
+    file.take(MOST_BYTES as u64).read_to_end(&mut bytes)?;
+    // `read_to_end` does not promise to stay within what `take` leaves of the file.
+    bytes.truncate(MOST_BYTES);
     Ok(bytes)
 }

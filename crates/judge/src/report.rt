@@ -32,12 +32,11 @@ impl fmt::Display for Row {
     ghost output = { λ r. Some (row_text r.procedure r.owner r.clauses) };
 
     fn fmt<W: fmt::Write>(&self, f: &mut fmt::Formatter<W>) -> fmt::Result {
-        let procedure = self.procedure;
-        let clauses = self.clauses;
-        match self.owner {
-            Owner::Station => write!(f, "{procedure} S {clauses}"),
-            Owner::Field => write!(f, "{procedure} F {clauses}"),
-        }
+        let letter = match self.owner {
+            Owner::Station => "S",
+            Owner::Field => "F",
+        };
+        write!(f, "{} {letter} {}", self.procedure, self.clauses)
     }
 }
 
@@ -63,9 +62,7 @@ impl fmt::Display for Report {
     ghost output = { λ r. Some (report_text r.effects r.rounds) };
 
     fn fmt<W: fmt::Write>(&self, f: &mut fmt::Formatter<W>) -> fmt::Result {
-        let effects = self.effects;
-        let rounds = self.rounds;
-        write!(f, "effects {effects} rounds {rounds}")
+        write!(f, "effects {} rounds {}", self.effects, self.rounds)
     }
 }
 
@@ -99,15 +96,15 @@ fn rows(set: &ProcedureSet, solution: &Solution) -> Bounded<Row, 32>
         clauses: 0,
     });
     for procedure in 0..PROCEDURES {
-        let Some(owner) = set.owner(procedure) else {
-            continue;
-        };
-        let formula = solution.formula(procedure);
-        told.push(Row {
-            procedure,
-            owner,
-            clauses: formula.clauses().len(),
-        });
+        if let Some(owner) = set.owner(procedure) {
+            let clauses = solution.formula(procedure).clauses().len();
+            let row = Row {
+                procedure,
+                owner,
+                clauses,
+            };
+            told.push(row).unwrap();
+        }
     }
     told
 }

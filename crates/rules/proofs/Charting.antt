@@ -1,10 +1,12 @@
 -- A chart drawn from records permits exactly what their automaton accepts.
-use Rattle.std.proofs.Common.{◌≡◌, ℕ, ◌+◌, ◌*◌, ◌/◌, ◌%◌, ◌^◌, ◌<◌, Bool, true, false, ◌&&◌, ◌||◌, eqb, ◌⊎◌, ◌↔◌, List, [], ◌∷◌, length, get_or, set, Decides, sym, refl, ap, ◌∙◌, subst, inl, inr, ⊎_elim, zero-add, arith}
+use Rattle.std.proofs.Common.{◌≡◌, ℕ, ◌+◌, ◌*◌, ◌/◌, ◌%◌, ◌^◌, ◌<◌, Bool, true, false, ◌&&◌, ◌||◌, eqb, ◌⊎◌, ◌↔◌, List, [], ◌∷◌, length, get_or, set, MatchBool, Decides, sym, refl, ap, ◌∙◌, subst, inl, inr, ⊎_elim, zero-add, arith}
 use lib.Bits.{bit_and, bit_or}
 use Rattle.std.proofs.lemmas.Nat.{or_lt, mod_below, pow_pos}
 use Rattle.std.proofs.lemmas.List.{get_or-set_same, get_or-set_other, length-set}
 use Rattle.std.proofs.lemmas.Bool.{eqb-true, eq-eqb, and_parts, and_from, or_cases, or_left, or_right, cases_eq, cases_lt, not-true, not-false, not_from_true, or_from, and_right, ne_eqb}
 use Rattle.std.proofs.lemmas.Bool.Decides.{Decides-eqb, Decides-at, Decides-like, Decides-not, not_from_Decides}
+use Rattle.std.specs.List.{AllWithin, HoldsAt, enumerate_from}
+use Rattle.std.proofs.lemmas.List.FromFn.{length-enumerate_from, get_or-enumerate_from}
 use Rattle.rules.specs.declared.chart.making.ChartRecord.{ChartRecord}
 use Rattle.rules.specs.declared.chart.making.ChartRecord.TheVariants.{Arrow as arrow, Final as final}
 use Rattle.rules.specs.Automata.{record_at, arrow_bytes, final_bytes, ArrowForm, FinalForm, Formed, Arrow, Final, Leads, Accepts, LeadAlike}
@@ -161,19 +163,30 @@ module _ (bytes : List ℕ) (boxes : List ℕ) (finals : List Bool) (boxed : (c 
     );
   }
 
--- ---- the loop that looks for a final state
+-- ---- looking for a final state
 
 module _ (finals : List Bool) (a : ℕ) where
-  abbrev pub ends_at : ℕ → Bool
-  ends_at q = get_or finals q false && pairs a 0 q
+  -- what the code tests of a flag with its number
+  abbrev pub Ends : ℕ × Bool → Type 0
+  Ends p = (p.1 ≡ true) × (bit_and (a / 2 ^ p.0) 1 ≡ 1)
 
-  pub ends_here : (q : ℕ) → q < 8 → get_or finals q false ≡ true → bit_and (a / 2 ^ q) 1 ≡ 1 → true ≡ accepting finals a
-  ends_here q h f t =
-      let bit : pairs a 0 q ≡ true = ap (has a) (zero-add q) ∙ sym (bit_test a q) ∙ eq-eqb (bit_and (a / 2 ^ q) 1) 1 t in
-      sym ((some_is 8 ends_at).1 (q, h, and_from (get_or finals q false) (pairs a 0 q) f bit))
+  ends_at : (q : ℕ) → q < length finals → get_or (enumerate_from 0 finals) q (0, false) ≡ (0 + q, get_or finals q false)
+  ends_at q h = get_or-enumerate_from 0 finals q (0, false) h
 
-  pub no_bit : (q : ℕ) → (bit_and (a / 2 ^ q) 1 ≡ 1 → ⊥) → ends_at q ≡ false
-  no_bit q t = and_right (get_or finals q false) (pairs a 0 q) (ap (has a) (zero-add q) ∙ sym (bit_test a q) ∙ ne_eqb (bit_and (a / 2 ^ q) 1) 1 t)
-
-  pub ends_more : (q : ℕ) → some_below q ends_at ≡ false → ends_at q ≡ false → some_below (q + 1) ends_at ≡ false
-  ends_more q h here = some_more q ends_at ∙ or_from (ends_at q) (some_below q ends_at) here h
+  pub accepting_is : (r : Bool) → length finals ≡ 8
+      → MatchBool r ((q : ℕ) × (q < length (enumerate_from 0 finals)) × HoldsAt Ends (enumerate_from 0 finals) q) (AllWithin (λ p. Ends p → ⊥) (enumerate_from 0 finals) 0 (length (enumerate_from 0 finals)))
+      → r ≡ accepting finals a
+  accepting_is true size (q, h, ends) =
+      let l : q < length finals = omega (arith, length-enumerate_from 0 finals) in
+      let e = subst Ends (ends_at q l) (ends (0, false)) in
+      sym ((some_is 8 (λ q. get_or finals q false && pairs a 0 q)).1
+      (q, omega arith, and_from (get_or finals q false) (pairs a 0 q) e.0 (sym (bit_test a (0 + q)) ∙ eq-eqb (bit_and (a / 2 ^ (0 + q)) 1) 1 e.1)))
+  accepting_is false size none = go (accepting finals a) refl
+    where
+      go : (b : Bool) → accepting finals a ≡ b → false ≡ b
+      go false e = refl
+      go true e =
+          let w = (some_is 8 (λ q. get_or finals q false && pairs a 0 q)).0 e in
+          let t = and_parts (get_or finals w.0 false) (pairs a 0 w.0) w.2 in
+          let bit : bit_and (a / 2 ^ (0 + w.0)) 1 ≡ 1 = eqb-true (bit_and (a / 2 ^ (0 + w.0)) 1) 1 (bit_test a (0 + w.0) ∙ t.1) in
+          absurd (none w.0 (0, false) (omega arith) (omega (arith, w.1, length-enumerate_from 0 finals)) (subst Ends (sym (ends_at w.0 (omega (arith, w.1)))) (t.0, bit)))

@@ -1,10 +1,13 @@
 -- The loops that join two boxes, row by row.
-use Rattle.std.proofs.Common.{◌≡◌, ℕ, ◌+◌, ◌*◌, ◌/◌, ◌%◌, ◌^◌, ◌<◌, Bool, true, false, ◌&&◌, ◌||◌, sym, refl, ap, ◌∙◌, subst, arith}
+use Rattle.std.proofs.Common.{◌≡◌, ℕ, ◌+◌, ◌*◌, ◌/◌, ◌%◌, ◌^◌, ◌<◌, ◌≤◌, Bool, true, false, ◌&&◌, ◌||◌, List, [], ◌∷◌, ◌++◌, length, get_or, sym, refl, ap, ◌∙◌, subst, zero-add, arith}
 use lib.Bits.{bit_and, bit_or, mask_lt, or_shifted_r}
 use Rattle.std.proofs.lemmas.Nat.{and_mask, or_lt, shl_whole}
 use Rattle.std.proofs.lemmas.Bool.{eq-eqb, ne_eqb, both_ways}
+use Rattle.std.specs.List.{range_with_len}
+use Rattle.std.proofs.lemmas.List.{get_or_append_left, get_or_push, length_push}
+use Rattle.std.proofs.lemmas.List.FromFn.{get_or-range_with_len}
 use Rattle.foundation.specs.Bits.{has, some_below, number}
-use Rattle.rules.specs.Boxes.{pairs, through}
+use Rattle.rules.specs.Boxes.{pairs, through, composed}
 use Rattle.foundation.specs.Laws.Bits.{some_none, some_more, has-zero, has-or, has_shr, has_mod, number_cat, number_ext, number-has, number_lt}
 
 tests_yes : (x y z s : Bool) → x ≡ s → z ≡ true → (x || y) ≡ ((z && y) || s)
@@ -64,3 +67,25 @@ rows_more a b p joined row h e small bits =
     ∙ ap (λ x. number (λ j. f (8 * p + j)) 8 * 2 ^ (8 * p) + x) e
     ∙ sym (number_cat f (8 * p) 8)
     ∙ ap (number f) (let u : 8 * p + 8 ≡ 8 * (p + 1) = omega arith in u)
+
+-- the rows of these states stand in the box that was joined so far, where the states are the first ones in order
+abbrev pub So : ℕ → ℕ → List ℕ → ℕ → Type 0
+So a b ps joined = ((i : ℕ) → i < length ps → get_or ps i 0 ≡ i) → length ps ≤ 8 → joined ≡ number (λ k. through a b (k / 8) (k % 8)) (8 * length ps)
+
+-- what the turn at the state p makes of the box
+abbrev pub Turn : ℕ → ℕ → ℕ → ℕ → ℕ → Type 0
+Turn a b joined p more = p < 8 → (row : ℕ) × (row < 2 ^ 8) × ((q : ℕ) → q < 8 → has row q ≡ through a b p q) × (more ≡ bit_or joined ((row * 2 ^ (8 * p)) % 2 ^ 64))
+
+pub so_more : (a b : ℕ) (ps : List ℕ) (joined p more : ℕ) → So a b ps joined → Turn a b joined p more → So a b (ps ++ p ∷ []) more
+so_more a b ps joined p more so turn each few =
+    let f : ℕ → Bool = λ k. through a b (k / 8) (k % 8) in
+    let n : length (ps ++ p ∷ []) ≡ length ps + 1 = length_push ps p in
+    let at : p ≡ length ps = sym (get_or_push ps p 0 (length ps) refl) ∙ each (length ps) (omega arith) in
+    let e : joined ≡ number f (8 * length ps) = so (λ i h. sym (get_or_append_left ps (p ∷ []) 0 i h) ∙ each i (omega arith)) (omega arith) in
+    let t = turn (omega arith) in
+    t.3 ∙ rows_more a b p joined t.0 (omega arith) (e ∙ ap (λ j. number f (8 * j)) (sym at)) t.1 t.2
+    ∙ ap (λ j. number f (8 * j)) (let u : p + 1 ≡ length (ps ++ p ∷ []) = omega arith in u)
+
+pub so_all : (a b joined : ℕ) → So a b (range_with_len 0 8) joined → joined ≡ composed a b
+unfolding composed
+so_all a b joined so = so (λ i h. get_or-range_with_len 0 8 i 0 h ∙ zero-add i) (omega arith)

@@ -6,22 +6,6 @@ use Rattle.std.proofs.lemmas.List.{append_assoc, drop_all, drop_at, drop-drop, d
 use Rattle.std.proofs.lemmas.Bool.{both_ways, cases_Bool, cond-false, cond-true, le-ltb, lt-ltb, ltb-true}
 use Rattle.rules.specs.Register.{Scheme, Survey, complete, overfull, entries, outcome, then_on, place, entered_at, entered, row, walk, written}
 
--- ---- looking for a place
-
-module _ {E : Type 0} (same : E → E → Bool) where
-  pub place_here : (reg : List E) (i : ℕ) (x e : E) → i < length reg → x ≡ get_or reg i x → same x e ≡ true → place same i (drop i reg) e ≡ Some i
-  place_here reg i x e h is t =
-      ap (λ l. place same i l e) (drop_more reg i x h)
-      ∙ cond-true (same (get_or reg i x) e) (Some i) (place same (i + 1) (drop (i + 1) reg) e) (ap (λ y. same y e) (sym is) ∙ t)
-
-  pub place_past : (reg : List E) (i : ℕ) (x e : E) → i < length reg → x ≡ get_or reg i x → same x e ≡ false → place same i (drop i reg) e ≡ place same (i + 1) (drop (i + 1) reg) e
-  place_past reg i x e h is t =
-      ap (λ l. place same i l e) (drop_more reg i x h)
-      ∙ cond-false (same (get_or reg i x) e) (Some i) (place same (i + 1) (drop (i + 1) reg) e) (ap (λ y. same y e) (sym is) ∙ t)
-
-  pub place_end : (reg : List E) (i : ℕ) (e : E) → length reg ≤ i → place same i (drop i reg) e ≡ None
-  place_end reg i e h = ap (λ l. place same i l e) (drop_all i reg h)
-
 -- ---- what the slice holds
 
 -- n entries stand at the front, each of them an effect of the rule's own, and what follows is as it was
@@ -126,46 +110,18 @@ module _ {E : Type 0} (s : Scheme E) where
   unanswered (complete more) p = let z : ◌≡◌ {A = ℕ} 0 1 = cc in absurd (omega arith)
   unanswered (overfull reg e) p = (reg, (e, refl))
 
-  module _ (xs : List E) (count : ℕ) (e : E) (room : s.room ≤ length xs) (few : count ≤ s.room) where
-    abbrev reg : List E
-    reg = take count xs
-
-    reg_length : length (take count xs) ≡ count
-    reg_length = length-take-le count xs (omega arith)
-
-    -- what the two clauses of a call of `enter` say
-    abbrev pub Enters : List E → Option ℕ → Type 0
-    Enters new r = (r ≡ outcome (entered s (take count xs) e)) × (new ≡ written (entries (entered s (take count xs) e)) xs)
-
-    at_place : (o : Option ℕ) → o ≡ place s.same 0 (take count xs) e → (new : List E) (r : Option ℕ)
-        → (r ≡ outcome (entered_at s.room (take count xs) e o)) × (new ≡ written (entries (entered_at s.room (take count xs) e o)) xs) → Enters new r
-    at_place o p new r = subst (λ y. (r ≡ outcome (entered_at s.room (take count xs) e y)) × (new ≡ written (entries (entered_at s.room (take count xs) e y)) xs)) p
-
-    same_slice : xs ≡ written (take count xs) xs
-    same_slice = sym (ap (λ k. take count xs ++ drop k xs) reg_length ∙ take-append-drop count xs)
-
-    pub enters_known : (o : Option ℕ) → o ≡ place s.same 0 (take count xs) e → is_some o ≡ true → Enters xs (Some count)
-    enters_known (Some i) p t = at_place (Some i) p xs (Some count) (ap Some (sym reg_length), same_slice)
-    enters_known None p t = absurd (both_ways false refl t)
-
-    by_room : (b : Bool) → ltb (length (take count xs)) s.room ≡ b → (new : List E) (r : Option ℕ)
-        → (r ≡ outcome (cond b (complete (take count xs ++ e ∷ [])) (overfull (take count xs) e))) × (new ≡ written (entries (cond b (complete (take count xs ++ e ∷ [])) (overfull (take count xs) e))) xs)
-        → None ≡ place s.same 0 (take count xs) e → Enters new r
-    by_room b t new r h p = at_place None p new r (subst (λ y. (r ≡ outcome (cond y (complete (take count xs ++ e ∷ [])) (overfull (take count xs) e))) × (new ≡ written (entries (cond y (complete (take count xs ++ e ∷ [])) (overfull (take count xs) e))) xs)) (sym t) h)
-
-    pub enters_not : (o : Option ℕ) → o ≡ place s.same 0 (take count xs) e → is_some o ≡ false → s.room ≤ count → Enters xs None
-    enters_not (Some i) p t h = absurd (both_ways false refl (sym t))
-    enters_not None p t h = by_room false (le-ltb (length (take count xs)) s.room (omega (arith, reg_length))) xs None (refl, same_slice) p
-
-    pub enters_new : (o : Option ℕ) → o ≡ place s.same 0 (take count xs) e → is_some o ≡ false → count < s.room → Enters (set xs count e) (Some (count + 1))
-    enters_new (Some i) p t h = absurd (both_ways false refl (sym t))
-    enters_new None p t h =
-        let k : length (take count xs ++ e ∷ []) ≡ count + 1 = length_push (take count xs) e ∙ ap (λ j. j + 1) reg_length in
-        by_room true (lt-ltb (length (take count xs)) s.room (omega (arith, reg_length))) (set xs count e) (Some (count + 1)) (
-          ap Some (sym k),
-          Rattle.std.proofs.lemmas.List.set_split xs count e (omega arith) ∙ sym (append_assoc (take count xs) (e ∷ []) (drop (suc count) xs))
-              ∙ ap (λ j. (take count xs ++ e ∷ []) ++ drop j xs) (sym (k ∙ add-one count)),
-        ) p
+  -- what has no place is written behind what is there
+  pub enters_new : (xs : List E) (count : ℕ) (e : E) (o : Option ℕ) → o ≡ place s.same 0 (take count xs) e → is_some o ≡ false → s.room ≤ length xs → count < s.room
+      → set xs count e ≡ written (entries (entered s (take count xs) e)) xs
+  enters_new xs count e (Some i) p t room lt = absurd (both_ways false refl (sym t))
+  enters_new xs count e None p t room lt =
+      let reg = take count xs in
+      let n : length reg ≡ count = length-take-le count xs (omega arith) in
+      let k : length (reg ++ e ∷ []) ≡ suc count = omega (arith, length_push reg e, n) in
+      let is : entered s reg e ≡ complete (reg ++ e ∷ []) =
+      ap (entered_at s.room reg e) (sym p) ∙ cond-true (ltb (length reg) s.room) (complete (reg ++ e ∷ [])) (overfull reg e) (lt-ltb (length reg) s.room (omega arith)) in
+      Rattle.std.proofs.lemmas.List.set_split xs count e (omega arith) ∙ sym (append_assoc reg (e ∷ []) (drop (suc count) xs))
+      ∙ ap (λ j. (reg ++ e ∷ []) ++ drop j xs) (sym k) ∙ ap (λ x. written (entries x) xs) (sym is)
 
   -- ---- the loop over the commands
 

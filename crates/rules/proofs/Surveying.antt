@@ -1,30 +1,40 @@
 -- The register's loops over a rule's effects, in the terms of the code's own calls.
-use Rattle.std.proofs.Common.{◌≡◌, ℕ, ◌+◌, ◌-◌, ◌<◌, ◌≤◌, Bool, true, false, List, [], ◌∷◌, ◌++◌, length, get_or, take, drop, set, Some, None, Option, sym, refl, ap, ◌∙◌, subst, arith}
-use Rattle.std.specs.List.{AllByRecursion}
+use Rattle.std.proofs.Common.{◌≡◌, ℕ, ◌+◌, ◌-◌, ◌<◌, ◌≤◌, Bool, true, false, List, [], ◌∷◌, ◌++◌, length, get_or, take, drop, set, ◌⊎◌, Some, None, Option, MatchOption, ⊎_elim, sym, refl, ap, ◌∙◌, subst, arith}
+use Rattle.std.specs.List.{AllByRecursion, AllWithin, HoldsAt}
 use Rattle.std.proofs.ByRecursion.{All-get_or}
 use Rattle.std.proofs.lemmas.List.{drop-set-lt, get_or_read, get_or-take, length-set}
+use Rattle.std.proofs.lemmas.Bool.{both_ways, cases_order}
 use Rattle.rules.specs.Meaning.{Meaning, Lawful}
 use Rattle.rules.specs.Register.{Onward, place, Survey, entries, outcome, entered, row, walk, written, of_effects, met_effects}
-use Rattle.rules.proofs.Registering.{place_here, place_past, place_end, Stands, Answers, front, long, holds_front, row_step, row_off, row_done, walk_step, walk_off, walk_done, walk_longer}
+use Rattle.rules.proofs.Meetings.{Placed, placed}
+use Rattle.rules.proofs.Registering.{Stands, Answers, front, long, holds_front, row_step, row_off, row_done, walk_step, walk_off, walk_done, walk_longer}
 
 module _ {E : Type 0} (m : Meaning E) (law : Lawful m) where
-  -- ---- looking for an effect, from number i on
+  -- ---- looking for an effect
 
-  abbrev pub Looks : List E → E → ℕ → Type 0
-  Looks met e i = place m.same i (drop i met) e ≡ place m.same 0 met e
+  -- what a test of an entry against e says
+  abbrev pub Same : E → E → Type 0
+  Same e x = m.own x → m.same x e ≡ true
 
-  module _ (met : List E) (e x : E) (i : ℕ) (r : Bool) (own : AllByRecursion m.own met) (o : m.own e) (h : i < length met) (is : x ≡ get_or met i x) (told : m.own x → m.own e → r ≡ m.same x e) (at : Looks met e i) where
-    same_is : r ≡ m.same x e
-    same_is = told (subst m.own (sym is) (All-get_or m.own met i x h own)) o
+  abbrev pub Other : E → E → Type 0
+  Other e x = m.own x → m.same x e ≡ false
 
-    pub looks_more : r ≡ false → Looks met e (i + 1)
-    looks_more t = sym (place_past m.same met i x e h is (sym same_is ∙ t)) ∙ at
+  -- the first entry that is the same as e has the place of e
+  pub place_found : (met : List E) (e : E) (r : Option ℕ) → AllByRecursion m.own met
+      → MatchOption r (AllWithin (Other e) met 0 (length met)) (λ i. (i < length met) × HoldsAt (Same e) met i × AllWithin (Other e) met 0 i) → r ≡ place m.same 0 met e
+  place_found met e r own found = go r (place m.same 0 met e) found (placed m.same e 0 met e)
+    where
+      clash : (i : ℕ) → i < length met → Same e (get_or met i e) → Other e (get_or met i e) → ⊥
+      clash i h is_same is_other = let o = All-get_or m.own met i e h own in both_ways (m.same (get_or met i e) e) (is_other o) (is_same o)
 
-    pub looks_here : r ≡ true → Some i ≡ place m.same 0 met e
-    looks_here t = sym (place_here m.same met i x e h is (sym same_is ∙ t)) ∙ at
-
-  pub looks_end : (met : List E) (e : E) (i : ℕ) → length met ≤ i → Looks met e i → None ≡ place m.same 0 met e
-  looks_end met e i h at = sym (place_end m.same met i e h) ∙ at
+      go : (r o : Option ℕ) → MatchOption r (AllWithin (Other e) met 0 (length met)) (λ i. (i < length met) × HoldsAt (Same e) met i × AllWithin (Other e) met 0 i) → Placed m.same e 0 met e o → r ≡ o
+      go None None is_other missing = refl
+      go None (Some k) is_other (j, (_, f)) = absurd (clash j f.below (λ _. f.alike) (is_other j e (omega arith) f.below))
+      go (Some i) None (h, is_same, before) missing = absurd (clash i h (is_same e) (λ _. missing i h))
+      go (Some i) (Some k) (h, is_same, before) (j, (is, f)) = ⊎_elim
+          (λ (e' : i ≡ j). let p : i ≡ k = omega (arith, is) in ap Some p)
+          (λ (l : (i < j) ⊎ (j < i)). absurd (⊎_elim (λ l. clash i h (is_same e) (λ _. f.least i l)) (λ l. clash j f.below (λ _. f.alike) (before j e (omega arith) l)) l))
+          (cases_order i j)
 
   -- ---- entering effects
 

@@ -1,7 +1,7 @@
 -- An effect table as the code holds it and reads it.
 use Rattle.std.proofs.Common.{◌≡◌, ℕ, ◌-◌, ◌<◌, ◌≤◌, false, ltb, List, [], map, length, get_or, take, Some, None, Ok, Err, sym, refl, ap, ◌∙◌, subst, arith}
 use Rattle.std.proofs.lemmas.List.FromFn.{length-map-range_with_len}
-use Rattle.std.proofs.lemmas.List.{get_or-map, get_or-take, length-map, length-take, length-take-le, take_at}
+use Rattle.std.proofs.lemmas.List.{get_or-map, length-map, length-take, length-take-le, take_at}
 use Rattle.std.proofs.lemmas.Bool.{and_from, cond-false, cond-true, le-ltb, lt-ltb}
 use Rattle.foundation.specs.declared.bounded.Bounded.{Bounded}
 use Rattle.foundation.specs.declared.effect_set.EffectSet.{EffectSet}
@@ -13,37 +13,37 @@ use Rattle.rules.specs.Meaning.{Meaning, Lawful, effect}
 use Rattle.rules.specs.Numbering.{Numbered, Exceeds}
 use Rattle.rules.specs.Register.{Survey, complete, overfull, entries, outcome, mapped, met_effects, met_lists, written}
 use Rattle.rules.specs.Surveys.{tabled, tabled_by, slice_after, AllMet}
-use Rattle.rules.specs.Tables.{join_of, numbered, effects_table, lists_table}
-use Rattle.rules.specs.Views.{table_from, NumbersSome}
+use Rattle.rules.specs.Tables.{numbered, join_row, effects_table, lists_table}
+use Rattle.rules.specs.Views.{table_from, NumbersSome, Square}
 use Rattle.rules.proofs.ByLists.{lawful_behaviour, met_by_lists, table_by_lists}
 use Rattle.rules.proofs.Meetings.{Closed, Ends, Overfull, meets}
 use Rattle.rules.proofs.TableNumbers.{numbers, slice_numbered, slice_exceeds}
 use Rattle.rules.proofs.Tabling.{closed_lists}
 
--- ---- reading
-
-pub join_is : (count : ℕ) (ns : Bounded ℕ 16) (joins : List (List ℕ)) (s : EffectSet) (i j : ℕ) → count ≤ length joins → i < count → j < count
-    → Some (get_or (get_or joins i []) j 0) ≡ table_join (table_from count ns joins s) i j
-join_is count ns joins s i j l hi hj =
-    let t = table_from count ns joins s in
-    let n : length (take count joins) ≡ count = length-take-le count joins l in
-    ap Some
-    (sym (ap (λ r. get_or r j 0) (get_or-map (take count) (take count joins) i [] [] (omega arith)) ∙ get_or-take count (get_or (take count joins) i []) j 0 hj ∙ ap (λ r. get_or r j 0) (get_or-take count joins i [] hi)))
-    ∙ sym (cond-true _ (Some (join_of t i j)) None (and_from (ltb i count) (ltb j count) (lt-ltb i count hi) (lt-ltb j count hj)))
-
 -- ---- making
 
-pub view_is : {E : Type 0} (m : Meaning E) (met : List E) (count : ℕ) (ns : Bounded ℕ 16) (joins : List (List ℕ)) (s : EffectSet) → count ≡ length met
-    → items ns ≡ (effects_table m met).numbers → map (take (length met)) (take (length met) joins) ≡ (effects_table m met).joins → s ≡ (effects_table m met).breaking
-    → table_from count ns joins s ≡ effects_table m met
-view_is m met count ns joins s n e f g =
+pub view_is : {E : Type 0} (m : Meaning E) (met : List E) (ns : Bounded ℕ 16) (joins : Bounded (Bounded ℕ 64) 64) (s : EffectSet)
+    → items ns ≡ (effects_table m met).numbers → map items (items joins) ≡ (effects_table m met).joins → s ≡ (effects_table m met).breaking
+    → table_from ns joins s ≡ effects_table m met
+view_is m met ns joins s e f g =
     let k : length (items ns) ≡ m.commands = ap length e ∙ length-map-range_with_len (λ c. numbered m.same met (m.command c)) 0 m.commands in
-    let j : map (take count) (take count joins) ≡ (effects_table m met).joins = ap (λ x. map (take x) (take x joins)) n ∙ f in
-    ap (λ x. record { commands = x; count = count; numbers = items ns; joins = map (take count) (take count joins); breaking = s }) k
-    ∙ ap (λ x. record { commands = m.commands; count = x; numbers = items ns; joins = map (take count) (take count joins); breaking = s }) n
-    ∙ ap (λ x. record { commands = m.commands; count = length met; numbers = x; joins = map (take count) (take count joins); breaking = s }) e
-    ∙ ap (λ x. record { commands = m.commands; count = length met; numbers = (effects_table m met).numbers; joins = x; breaking = s }) j
-    ∙ ap (λ x. record { commands = m.commands; count = length met; numbers = (effects_table m met).numbers; joins = (effects_table m met).joins; breaking = x }) g
+    let n : length (items joins) ≡ length met = sym (length-map (items joins) items) ∙ ap length f ∙ length-map met (join_row m.same m.join met) in
+    rw (k, n, e, f, g)
+
+module _ {E : Type 0} (m : Meaning E) (law : Lawful m) (met : List E) (all : AllMet m met) where
+  closed : Closed (behaviour m) (lawful_behaviour m law) all.lists
+  closed = closed_lists m law all.lists all.closed
+
+  lists_are : effects_table m met ≡ lists_table (behaviour m) all.lists
+  lists_are = ap (effects_table m) all.effects ∙ table_by_lists m law all.lists closed.own
+
+  -- the table of the effects that were met is as the code's table must be
+  pub square : Square (effects_table m met)
+  square i h =
+      ap length (get_or-map (join_row m.same m.join met) met i m.neutral [] h) ∙ length-map met (λ y. numbered m.same met (m.join (get_or met i m.neutral) y))
+
+  pub numbers_some : NumbersSome (effects_table m met)
+  numbers_some = subst NumbersSome (sym lists_are) (record { rule = behaviour m; lawful = lawful_behaviour m law; numbers = numbers (behaviour m) (lawful_behaviour m law) all.lists closed })
 
 complete_from : {A B : Type 0} (f : A → B) (x : Survey A) (n : ℕ) → Some n ≡ outcome (mapped f x) → (ws : List A) × ((x ≡ complete ws) × (n ≡ length ws))
 complete_from f (complete ws) n p = (ws, (refl, (let z : n ≡ length (map f ws) = cc in z ∙ length-map ws f)))
@@ -55,14 +55,10 @@ overfull_from f (overfull ws w) p = (ws, (w, refl))
 
 -- what holds of a slice whose first n entries are all effects, and of the table that is made of them
 pub record Counted {E : Type 0} (m : Meaning E) (old new : List E) (n : ℕ) : Type 0 where
-  pub fits : n ≤ length new
-  pub few : n ≤ 64
-  pub part : AllMet m (take (n - 0) new)
-  pub count : n ≡ length (take (n - 0) new)
-  pub some : NumbersSome (effects_table m (take (n - 0) new))
-  pub answer : Ok (effects_table m (take (n - 0) new)) ≡ tabled (behaviour m) (length old)
+  pub part : AllMet m (take n new)
+  pub answer : Ok (effects_table m (take n new)) ≡ tabled (behaviour m) (length old)
   pub slice : new ≡ slice_after m old
-  pub numbered : Numbered m (effects_table m (take (n - 0) new)) old new
+  pub numbered : Numbered m (effects_table m (take n new)) old new
 
 module _ {E : Type 0} (m : Meaning E) (law : Lawful m) (old new : List E) (room : 64 ≤ length old) (is : new ≡ written (entries (met_effects m)) old) where
   enough : ltb (length old) 64 ≡ false
@@ -99,34 +95,21 @@ module _ {E : Type 0} (m : Meaning E) (law : Lawful m) (old new : List E) (room 
     found_lists : (ws : List (List ℕ)) × ((met_lists (behaviour m) ≡ complete ws) × (n ≡ length ws))
     found_lists = complete_from (effect m) (met_lists (behaviour m)) n (some ∙ ap outcome (met_by_lists m law))
 
-    closed : Closed (behaviour m) (lawful_behaviour m law) found_lists.0
-    closed = closed_lists m law found_lists.0 found_lists.1.0
-
     met_front : take n new ≡ map (effect m) found_lists.0
     met_front =
         ap (take n) (entries_are (complete found_lists.0) found_lists.1.0)
         ∙ take_at (map (effect m) found_lists.0) _ n (length-map found_lists.0 (effect m) ∙ sym found_lists.1.1)
 
-    -- the part of the slice, as the code takes it
-    part_is : take (n - 0) new ≡ map (effect m) found_lists.0
-    part_is = let e : n - 0 ≡ n = omega arith in ap (λ k. take k new) e ∙ met_front
-
-    part_size : n ≡ length (take (n - 0) new)
-    part_size = found_lists.1.1 ∙ sym (ap length part_is ∙ length-map found_lists.0 (effect m))
-
-    lists_are : effects_table m (take (n - 0) new) ≡ lists_table (behaviour m) found_lists.0
-    lists_are = ap (effects_table m) part_is ∙ table_by_lists m law found_lists.0 closed.own
+    part : AllMet m (take n new)
+    part = record { lists = found_lists.0; closed = found_lists.1.0; effects = met_front }
 
     pub counted_is : Counted m old new n
+    unfolding part found_lists
     counted_is = record {
-      fits = omega (arith, part_size, length-take (n - 0) new);
-      few = omega (arith, found_lists.1.1, closed.few);
-      part = record { lists = found_lists.0; closed = found_lists.1.0; effects = part_is };
-      count = part_size;
-      some = subst NumbersSome (sym lists_are) (record { rule = behaviour m; lawful = lawful_behaviour m law; numbers = numbers (behaviour m) (lawful_behaviour m law) found_lists.0 closed });
-      answer = ap Ok lists_are ∙ sym (table_is (complete found_lists.0) found_lists.1.0);
+      part = part;
+      answer = ap Ok (lists_are m law (take n new) part) ∙ sym (table_is (complete found_lists.0) found_lists.1.0);
       slice = slice_is;
-      numbered = subst (λ t. Numbered m t old new) (sym lists_are)
+      numbered = subst (λ t. Numbered m t old new) (sym (lists_are m law (take n new) part))
           (subst (Numbered m (lists_table (behaviour m) found_lists.0) old) (sym (entries_are (complete found_lists.0) found_lists.1.0))
-          (slice_numbered m law found_lists.0 old (omega (arith, closed.few)) closed));
+          (slice_numbered m law found_lists.0 old (omega (arith, (closed m law (take n new) part).few)) (closed m law (take n new) part)));
     }

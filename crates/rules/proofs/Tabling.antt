@@ -17,11 +17,6 @@ use Rattle.rules.proofs.Effects.{effect_own, effect-append}
 use Rattle.rules.proofs.Meetings.{Placed, placed, Closed, Ends, meets}
 use Rattle.rules.proofs.TableNumbers.{known-place}
 
-pub place_below : {E : Type 0} (same : E → E → Bool) (d : E) (reg : List E) (e : E) (k : ℕ) → Some k ≡ place same 0 reg e → k < length reg
-place_below same d reg e k p =
-    let w = subst (Placed same d 0 reg e) (sym p) (placed same d 0 reg e) in
-    omega (arith, w.1.0, w.1.1.below)
-
 pub closed_lists : {E : Type 0} (m : Meaning E) (law : Lawful m) (ws : List (List ℕ)) → met_lists (behaviour m) ≡ complete ws → Closed (behaviour m) (lawful_behaviour m law) ws
 closed_lists m law ws e = subst (Ends (behaviour m) (lawful_behaviour m law)) e (meets (behaviour m) (lawful_behaviour m law))
 
@@ -84,19 +79,6 @@ module _ {E : Type 0} (m : Meaning E) (law : Lawful m) (met : List E) (all : All
     below = All-append (λ c. c < m.commands) x.list y.list x.below y.below;
     is = ap₂ m.join x.is y.is ∙ sym (effect-append m law x.list y.list x.below y.below);
   }
-
--- ---- loops that fill a list place by place
-
-pub filled_more : {X Y : Type 0} (f : X → Y) (xs : List X) (ys : List Y) (i : ℕ) (x : X) (y : Y) → i < length xs → i < length ys → x ≡ get_or xs i x → y ≡ f x → take i ys ≡ map f (take i xs)
-    → take (i + 1) (set ys i y) ≡ map f (take (i + 1) xs)
-filled_more f xs ys i x y h l is e inv =
-    take_more_set ys i y l ∙ ap₂ (λ zs z. zs ++ z ∷ []) inv (e ∙ ap f is) ∙ sym (map_more f xs i x h)
-
--- the same, read through a function
-pub filled_through : {X Y Z : Type 0} (g : Y → Z) (f : X → Z) (xs : List X) (ys : List Y) (i : ℕ) (x : X) (y : Y) → i < length xs → i < length ys → x ≡ get_or xs i x → g y ≡ f x → map g (take i ys) ≡ map f (take i xs)
-    → map g (take (i + 1) (set ys i y)) ≡ map f (take (i + 1) xs)
-filled_through g f xs ys i x y h l is e inv =
-    ap (map g) (take_more_set ys i y l) ∙ map_push g (take i ys) y ∙ ap₂ (λ zs z. zs ++ z ∷ []) inv (e ∙ ap f is) ∙ sym (map_more f xs i x h)
 
 -- ---- one more member of a set below i
 

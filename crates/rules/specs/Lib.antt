@@ -4,6 +4,7 @@ pub mod Boxes
 pub mod ChartRecords
 pub mod Counting
 pub mod Judgements
+pub mod Kinds
 pub mod Lookups
 pub mod Meaning
 pub mod Numbering

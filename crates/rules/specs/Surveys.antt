@@ -12,7 +12,7 @@ use Rattle.rules.specs.Tables.{Table, lists_table}
 use Rattle.rules.specs.Views.{table_from}
 
 abbrev pub view : EffectTable → Table
-view t = table_from t.count t.numbers t.joins t.breaking
+view t = table_from t.numbers t.joins t.breaking
 
 abbrev pub viewed : Result EffectTable EffectsFault → Result Table EffectsFault
 viewed = by_cases view (λ f. f)

@@ -1,8 +1,7 @@
 //! Charts: finite automata over eight states, with boxes as effects.
 ghost use Rattle.std.specs.Prelude.{◌≡◌, ℕ, ◌^◌, ◌<◌, slice_index};
 ghost use Rattle.foundation.specs.Bits.{has};
-ghost use Rattle.rules.specs.Boxes.{through, composed, accepting, charted};
-ghost use Rattle.rules.specs.Laws.Boxes.{charted_lawful};
+ghost use Rattle.rules.specs.Boxes.{through, composed, accepting};
 
 use crate::rule::{Command, OrderRule};
 
@@ -40,42 +39,34 @@ fn row(a: BoxWord, b: BoxWord, p: u32) -> u64
 fn compose(a: BoxWord, b: BoxWord) -> BoxWord
     ensures { result ≡ composed a b }
 {
-    let mut joined = 0;
-    for p in 0..8u32 {
-        joined |= row(a, b, p) << (8 * p);
-    }
-    joined
+    (0..8).fold(0, |joined, p| joined | row(a, b, p) << (8 * p))
 }
 
 /// Whether the box leads from state 0 to a final state.
 fn accepts(finals: &[bool; 8], a: BoxWord) -> bool
     ensures { result ≡ accepting finals.now a }
 {
-    for q in 0..8u8 {
-        if finals[usize::from(q)] && (a >> q) & 1 == 1 {
-            return true;
-        }
-    }
-    false
+    finals
+        .iter()
+        .enumerate()
+        .any(|(q, is_final)| *is_final && (a >> q) & 1 == 1)
 }
 
 impl OrderRule for Chart {
     type Effect = BoxWord;
 
-    ghost meaning = { λ x. charted x.boxes x.finals };
+    ghost use Rattle.rules.specs.Kinds.{chart_meaning, chart_lawful};
 
-    ghost lawful = { λ x. charted_lawful x.boxes x.finals x.boxed };
+    ghost meaning = { chart_meaning };
+
+    ghost lawful = { chart_lawful };
 
     fn commands(&self) -> u8 {
         16
     }
 
     fn command(&self, c: Command) -> Option<BoxWord> {
-        if c < 16 {
-            Some(self.boxes[usize::from(c)])
-        } else {
-            None
-        }
+        self.boxes.get(usize::from(c)).copied()
     }
 
     fn neutral(&self) -> BoxWord {

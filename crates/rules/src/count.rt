@@ -1,8 +1,7 @@
 //! Counts: each command has a weight, and a list is judged by the sum of its weights modulo m.
 ghost use Rattle.std.specs.Prelude.{◌≤◌, length};
 ghost use Rattle.foundation.specs.Bounds.{items};
-ghost use Rattle.rules.specs.Counting.{counted, Modular, Residues};
-ghost use Rattle.rules.specs.Laws.Counting.{counted_lawful};
+ghost use Rattle.rules.specs.Counting.{Modular, Residues};
 
 use crate::rule::{Command, OrderRule};
 use foundation::bounded::Bounded;
@@ -26,9 +25,11 @@ pub struct Count {
 impl OrderRule for Count {
     type Effect = Residue;
 
-    ghost meaning = { λ x. counted x.modulus (items x.weights) x.permitted };
+    ghost use Rattle.rules.specs.Kinds.{count_meaning, count_lawful};
 
-    ghost lawful = { λ x. counted_lawful x.modulus x.weights x.permitted x.modular x.some x.residues };
+    ghost meaning = { count_meaning };
+
+    ghost lawful = { count_lawful };
 
     fn commands(&self) -> u8 {
         self.weights.len() as u8

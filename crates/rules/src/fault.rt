@@ -21,11 +21,11 @@ pub enum RuleFault {
     Mask,
 }
 
-impl RuleFault {
-    pub fn refusal(self) -> Refusal
-        ensures { result ≡ rule_refusal self }
-    {
-        let place = match self {
+impl From<RuleFault> for Refusal {
+    ghost from_gives = { λ f r. r ≡ rule_refusal f };
+
+    fn from(fault: RuleFault) -> Refusal {
+        let place = match fault {
             RuleFault::ChartLength(whole) => whole,
             RuleFault::ChartRecord(record) => record,
             RuleFault::Modulus => 0,
@@ -50,21 +50,18 @@ pub enum EffectsFault {
     ShortSlice(usize),
 }
 
-impl EffectsFault {
-    pub fn refusal(self) -> Refusal
-        ensures { result ≡ effects_refusal self }
-    {
-        match self {
-            EffectsFault::TooMany => Refusal {
-                number: 6,
-                layer: Layer::Effects,
-                place: 64,
-            },
-            EffectsFault::ShortSlice(entries) => Refusal {
-                number: 7,
-                layer: Layer::Effects,
-                place: entries,
-            },
+impl From<EffectsFault> for Refusal {
+    ghost from_gives = { λ f r. r ≡ effects_refusal f };
+
+    fn from(fault: EffectsFault) -> Refusal {
+        let (number, place) = match fault {
+            EffectsFault::TooMany => (6, 64),
+            EffectsFault::ShortSlice(entries) => (7, entries),
+        };
+        Refusal {
+            number,
+            layer: Layer::Effects,
+            place,
         }
     }
 }

@@ -31,14 +31,9 @@ impl fmt::Display for Judgement {
 fn effect_of<R: OrderRule>(rule: &R, list: &[Command]) -> Option<R::Effect>
     ensures { MatchOption result (Below (R.OrderRule.meaning rule.now).commands list.now → ⊥) (HasEffect (R.OrderRule.meaning rule.now) list.now) }
 {
-    let mut so_far = rule.neutral();
-    for c in list {
-        let Some(effect) = rule.command(*c) else {
-            return None;
-        };
-        so_far = rule.join(so_far, effect);
-    }
-    Some(so_far)
+    list.iter().try_fold(rule.neutral(), |so_far, c| {
+        Some(rule.join(so_far, rule.command(*c)?))
+    })
 }
 
 /// Judges a list by its effect.
@@ -46,13 +41,8 @@ pub fn judge<R: OrderRule>(rule: &R, list: &[Command]) -> Judgement
     ensures { Judged (R.OrderRule.meaning rule.now) list.now result }
 {
     match effect_of(rule, list) {
-        Some(effect) => {
-            if rule.breaks(effect) {
-                Judgement::Forbidden
-            } else {
-                Judgement::Permitted
-            }
-        }
+        Some(effect) if rule.breaks(effect) => Judgement::Forbidden,
+        Some(_) => Judgement::Permitted,
         None => Judgement::Neither,
     }
 }

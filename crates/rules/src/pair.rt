@@ -6,6 +6,7 @@ ghost use Rattle.rules.specs.Laws.Pairs.{paired_lawful};
 use crate::lists;
 use crate::lists::Judgement;
 use crate::rule::{Command, OrderRule};
+use std::marker::Model;
 
 #[derive(Clone, Copy)]
 pub struct Pair<A, B> {
@@ -13,18 +14,26 @@ pub struct Pair<A, B> {
     second: B,
 }
 
+/// Clauses see a pair as its two rules.
+impl<A, B> Model for Pair<A, B> {
+    ghost Value = { A × B };
+
+    ghost view = { λ p. (p.first, p.second) };
+
+    ghost inverse = { λ v. record { first = v.0; second = v.1 } };
+}
+
 impl<A: OrderRule, B: OrderRule> Pair<A, B> {
     pub fn new(first: A, second: B) -> Pair<A, B>
-        ensures first { result.first ≡ first }
-        ensures second { result.second ≡ second }
-        ensures permits { PermitsBoth (A.OrderRule.meaning first) (B.OrderRule.meaning second) (paired (A.OrderRule.meaning result.first) (B.OrderRule.meaning result.second)) }
+        ensures rules { result ≡ (first, second) }
+        ensures permits { PermitsBoth (A.OrderRule.meaning first) (B.OrderRule.meaning second) (paired (A.OrderRule.meaning result.0) (B.OrderRule.meaning result.1)) }
     {
         Pair { first, second }
     }
 
     /// What both parts say of a list.
     pub fn judge(&self, list: &[Command]) -> Judgement
-        ensures { JudgedBoth (A.OrderRule.meaning self.now.first) (B.OrderRule.meaning self.now.second) list.now result }
+        ensures { JudgedBoth (A.OrderRule.meaning self.now.0) (B.OrderRule.meaning self.now.1) list.now result }
     {
         lists::judge(self, list)
     }
@@ -33,15 +42,16 @@ impl<A: OrderRule, B: OrderRule> Pair<A, B> {
 impl<A: OrderRule, B: OrderRule> OrderRule for Pair<A, B> {
     type Effect = (A::Effect, B::Effect);
 
-    ghost meaning = { λ p. paired (A.OrderRule.meaning p.first) (B.OrderRule.meaning p.second) };
+    ghost meaning = { λ p. paired (A.OrderRule.meaning p.0) (B.OrderRule.meaning p.1) };
 
-    ghost lawful = { λ p. paired_lawful (A.OrderRule.lawful p.first) (B.OrderRule.lawful p.second) };
+    ghost lawful = { λ p. paired_lawful (A.OrderRule.lawful p.0) (B.OrderRule.lawful p.1) };
 
     fn commands(&self) -> u8 {
         self.first.commands().min(self.second.commands())
     }
 
     fn command(&self, c: Command) -> Option<(A::Effect, B::Effect)> {
+        // A listed form of this project: the answers of the two parts are options, taken apart here.
         match (self.first.command(c), self.second.command(c)) {
             (Some(a), Some(b)) => Some((a, b)),
             _ => None,

@@ -2,7 +2,7 @@
 //!
 //! The caller's slice holds the effects at its front. The functions are handed that slice, or the
 //! part of it that is in use.
-ghost use Rattle.std.specs.Prelude.{◌≡◌, ◌≤◌, length, take, MatchOption};
+ghost use Rattle.std.specs.Prelude.{◌≡◌, ◌<◌, ◌≤◌, length, take, IfSome, MatchOption};
 ghost use Rattle.std.specs.List.{AllByRecursion};
 ghost use Rattle.rules.specs.Register.{Onward, place, entered, row, outcome, entries, written, of_effects, met_effects};
 
@@ -15,17 +15,14 @@ pub(crate) const ROOM: usize = 64;
 pub(crate) fn find<R: OrderRule>(rule: &R, met: &[R::Effect], e: R::Effect) -> Option<usize>
     requires met { AllByRecursion (R.OrderRule.meaning rule.now).own met.now }
     requires own { (R.OrderRule.meaning rule.now).own e }
-    ensures { result ≡ place (R.OrderRule.meaning rule.now).same 0 met.now e }
+    ensures place { result ≡ place (R.OrderRule.meaning rule.now).same 0 met.now e }
+    ensures within { IfSome result (λ i. i < length met.now) }
 {
-    for (i, x) in met.iter().enumerate() {
-        if rule.same(*x, e) {
-            return Some(i);
-        }
-    }
-    None
+    met.iter().position(|x| rule.same(*x, e))
 }
 
 /// Enters an effect if it is new: how many there are then, or `None` where it finds no place.
+// Slice and count stay parameters: the effects live in the caller's slice, so that none is held here.
 fn enter<R: OrderRule>(
     rule: &R,
     slice: &mut [R::Effect],
@@ -39,14 +36,14 @@ fn enter<R: OrderRule>(
     ensures count { result ≡ outcome (entered (of_effects (R.OrderRule.meaning rule.now)) (take count slice.old) e) }
     ensures slice { slice.new ≡ written (entries (entered (of_effects (R.OrderRule.meaning rule.now)) (take count slice.old) e)) slice.old }
 {
-    if find(rule, &slice[0..count], e).is_some() {
-        return Some(count);
+    if find(rule, &slice[..count], e).is_some() {
+        Some(count)
+    } else if count < ROOM {
+        slice[count] = e;
+        Some(count + 1)
+    } else {
+        None
     }
-    if count >= ROOM {
-        return None;
-    }
-    slice[count] = e;
-    Some(count + 1)
 }
 
 /// What an effect leads to by one command.
@@ -54,10 +51,7 @@ fn lead<R: OrderRule>(rule: &R, from: R::Effect, c: Command) -> Option<R::Effect
     requires { (R.OrderRule.meaning rule.now).own from }
     ensures { MatchOption result ((R.OrderRule.meaning rule.now).commands ≤ c) (Onward (R.OrderRule.meaning rule.now) from c) }
 {
-    match rule.command(c) {
-        Some(effect) => Some(rule.join(from, effect)),
-        None => None,
-    }
+    Some(rule.join(from, rule.command(c)?))
 }
 
 /// Enters what the effect `from` leads to by each command.
@@ -76,9 +70,7 @@ fn extend<R: OrderRule>(
 {
     let mut met = count;
     for c in 0..rule.commands() {
-        let Some(to) = lead(rule, from, c) else {
-            unreachable()
-        };
+        let to = lead(rule, from, c).unwrap();
         met = enter(rule, slice, met, to)?;
     }
     Some(met)
@@ -94,6 +86,7 @@ pub(crate) fn register<R: OrderRule>(rule: &R, slice: &mut [R::Effect]) -> Optio
     slice[0] = rule.neutral();
     let mut count = 1;
     let mut i = 0;
+    // No range can stand here, since `count` grows on the way.
     while i < count {
         let from = slice[i];
         count = extend(rule, slice, count, from)?;

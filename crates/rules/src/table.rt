@@ -1,6 +1,7 @@
 //! The effect table: what is known of a rule once its effects have numbers.
-ghost use Rattle.std.specs.Prelude.{◌≤◌};
-ghost use Rattle.rules.specs.Views.{table_from, NumbersSome};
+ghost use Rattle.std.specs.Prelude.{◌≤◌, length};
+ghost use Rattle.foundation.specs.Bounds.{items};
+ghost use Rattle.rules.specs.Views.{table_from, NumbersSome, Square};
 
 use foundation::bounded::Bounded;
 use foundation::effect_set::{EffectNumber, EffectSet};
@@ -10,12 +11,12 @@ mod making;
 
 #[derive(Drop)]
 pub struct EffectTable {
-    count: usize,
     /// The number of each command's effect.
     numbers: Bounded<EffectNumber, 16>,
-    /// The joins of the effects below `count`, by their numbers; the rest is not used.
-    joins: [[EffectNumber; 64]; 64],
+    /// A row for each effect, with the numbers of its joins with each effect.
+    joins: Bounded<Bounded<EffectNumber, 64>, 64>,
     breaking: EffectSet,
-    ghost few: { count ≤ 64 },
-    ghost numbered: { ∥ NumbersSome (table_from count numbers joins breaking) ∥₁ },
+    ghost few: { length (items joins) ≤ 64 },
+    ghost square: { Square (table_from numbers joins breaking) },
+    ghost numbered: { ∥ NumbersSome (table_from numbers joins breaking) ∥₁ },
 }

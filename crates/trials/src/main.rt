@@ -17,30 +17,19 @@ fn answer(heap: Global, line: &str) -> Result<Outcome, Fault> {
     Case::read(heap, line)?.run(heap)
 }
 
-fn print_fault(rt: &HostRuntime, fault: Fault) -> anyhow::Result<()> {
-    match fault {
-        Fault::Malformed => rt.println("malformed")?,
-        Fault::Refused(refusal) => rt.println(refusal)?,
-        Fault::Memory(error) => return Err(error.into()),
-    }
-    Ok(())
-}
-
+/// Prints what came of a case; a failed allocation ends the program.
 fn print_answer(rt: &HostRuntime, line: &str) -> anyhow::Result<()> {
     match answer(rt.alloc(), line) {
         Ok(outcome) => rt.println(outcome)?,
-        Err(fault) => print_fault(rt, fault)?,
-    }
-    Ok(())
-}
-
-fn print_answers(rt: &HostRuntime) -> anyhow::Result<()> {
-    for line in BufReader::new(rt.alloc(), rt.stdin())?.lines(rt.alloc()) {
-        print_answer(rt, line?.as_str())?;
+        Err(Fault::Memory(error)) => return Err(error.into()),
+        Err(fault) => rt.println(fault)?,
     }
     Ok(())
 }
 
 fn main(rt: HostRuntime) -> anyhow::Result<()> {
-    print_answers(&rt)
+    for line in BufReader::new(rt.alloc(), rt.stdin())?.lines(rt.alloc()) {
+        print_answer(&rt, line?.as_str())?;
+    }
+    Ok(())
 }

@@ -1,13 +1,17 @@
 //! Rules by their shape and parts, and what is tried under them.
 use crate::fault::Fault;
+use foundation::effect_set::EffectNumber;
+use foundation::refusal::Refusal;
 use rules::chart::Chart;
 use rules::count::Count;
-use rules::fault::RuleFault;
 use rules::pair::Pair;
 use rules::rule::OrderRule;
 use std::alloc::Global;
 
 mod reading;
+
+/// A table has at most so many effects, and a set of effects so many places.
+pub const MOST_EFFECTS: EffectNumber = 64;
 
 /// What a chart is made from.
 #[derive(Drop)]
@@ -62,13 +66,13 @@ impl Shape {
 }
 
 impl ChartPart {
-    fn make(&self) -> Result<Chart, RuleFault> {
-        Chart::new(self.bytes.as_slice())
+    fn make(&self) -> Result<Chart, Refusal> {
+        Chart::new(self.bytes.as_slice()).map_err(Refusal::from)
     }
 }
 
 impl CountPart {
-    fn make(&self) -> Result<Count, RuleFault> {
-        Count::new(self.modulus, self.weights.as_slice(), self.permitted)
+    fn make(&self) -> Result<Count, Refusal> {
+        Count::new(self.modulus, self.weights.as_slice(), self.permitted).map_err(Refusal::from)
     }
 }

@@ -1,24 +1,20 @@
 //! The second kind of case, `solve SHAPE ALLOWANCE RECORDS FORM TARGET PART ..`: a procedure set is
 //! solved, and a form is looked at under its formulas.
 use crate::fault::Fault;
-use crate::rule::{Shape, Trial};
+use crate::rule::{MOST_EFFECTS, Shape, Trial};
 use crate::words::Words;
 use formulas::fault::Overflow;
 use formulas::formula::Formula;
 use formulas::procedure_set::ProcedureSet;
 use formulas::solution::Solution;
-use formulas::symbol::{Procedure, Symbol};
+use formulas::symbol::{PROCEDURES, Symbol};
 use formulas::winning_set::winning_set;
-use foundation::effect_set::{EffectNumber, EffectSet};
+use foundation::effect_set::EffectSet;
+use foundation::refusal::Refusal;
 use rules::rule::OrderRule;
 use rules::table::EffectTable;
 use std::alloc::Global;
 use std::fmt;
-
-/// A table has at most so many effects, and a set so many places.
-const MOST_EFFECTS: EffectNumber = 64;
-
-const PROCEDURES: Procedure = 32;
 
 #[derive(Drop)]
 pub struct SolveCase {
@@ -61,22 +57,18 @@ impl SolveCase {
 }
 
 fn read_form(words: &mut Words<'_>) -> Result<Vec<Symbol>, Fault> {
-    let mut form = Vec::new(words.heap());
-    for byte in words.bytes()?.as_slice() {
-        form.push(Symbol::try_from(*byte).map_err(|_| Fault::Malformed)?)?;
-    }
-    Ok(form)
+    words
+        .bytes()?
+        .iter()
+        .map(|byte| Symbol::try_from(*byte).map_err(|_| Fault::Malformed))
+        .try_collect(words.heap())
 }
 
 /// The set whose members are the set bits of a number.
 fn set_of(bits: u64) -> EffectSet {
-    let mut set = EffectSet::empty();
-    for k in 0..MOST_EFFECTS {
-        if bits >> k & 1 == 1 {
-            set = set.with(k);
-        }
-    }
-    set
+    (0..MOST_EFFECTS)
+        .filter(|k| bits >> *k & 1 == 1)
+        .fold(EffectSet::empty(), |set, k| set.with(k))
 }
 
 impl Trial for SolveCase {
@@ -86,10 +78,10 @@ impl Trial for SolveCase {
     where
         R::Effect: Clone,
     {
-        let set = ProcedureSet::read(self.records.as_slice())?;
+        let set = ProcedureSet::read(self.records.as_slice()).map_err(Refusal::from)?;
         let mut slice = vec![in heap; rule.neutral(); usize::from(MOST_EFFECTS)]?;
-        let table = EffectTable::of(rule, slice.as_mut_slice())?;
-        let solution = Solution::of(&set, &table, self.allowance)?;
+        let table = EffectTable::of(rule, slice.as_mut_slice()).map_err(Refusal::from)?;
+        let solution = Solution::of(&set, &table, self.allowance).map_err(Refusal::from)?;
         let form = self.form.as_slice();
         Ok(SolveOutcome {
             effects: table.effects(),
@@ -103,17 +95,15 @@ impl Trial for SolveCase {
 
 impl fmt::Display for SolveOutcome {
     fn fmt<W: fmt::Write>(&self, f: &mut fmt::Formatter<W>) -> fmt::Result {
-        let effects = self.effects;
         let rounds = self.solution.round();
-        write!(f, "effects {effects} rounds {rounds} formulas ")?;
+        write!(f, "effects {} rounds {rounds} formulas ", self.effects)?;
         write_formulas(&self.set, &self.solution, f)?;
         write!(f, " form ")?;
         match &self.form {
             Ok(formula) => write_clauses(formula, f)?,
             Err(_) => write!(f, "overflow")?,
         }
-        let wins = self.wins;
-        write!(f, " wins {wins}")
+        write!(f, " wins {}", self.wins)
     }
 }
 
@@ -123,14 +113,11 @@ fn write_formulas<W: fmt::Write>(
     solution: &Solution,
     f: &mut fmt::Formatter<W>,
 ) -> fmt::Result {
-    let mut first = true;
-    for p in 0..PROCEDURES {
-        if set.owner(p).is_some() {
-            let semicolon = if first { "" } else { ";" };
-            write!(f, "{semicolon}{p}:")?;
-            write_clauses(&solution.formula(p), f)?;
-            first = false;
-        }
+    let recorded = (0..PROCEDURES).filter(|p| set.owner(*p).is_some());
+    for (i, p) in recorded.enumerate() {
+        let semicolon = if i == 0 { "" } else { ";" };
+        write!(f, "{semicolon}{p}:")?;
+        write_clauses(&solution.formula(p), f)?;
     }
     Ok(())
 }

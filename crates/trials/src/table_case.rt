@@ -1,8 +1,8 @@
 //! The first kind of case, `SHAPE ROOM LIST PART ..`: a list is judged, and the effects are numbered.
 use crate::fault::Fault;
-use crate::rule::{Shape, Trial};
+use crate::rule::{MOST_EFFECTS, Shape, Trial};
 use crate::words::Words;
-use foundation::effect_set::EffectNumber;
+use foundation::refusal::Refusal;
 use rules::fault::EffectsFault;
 use rules::lists::{Judgement, judge};
 use rules::rule::{Command, OrderRule};
@@ -12,9 +12,6 @@ use std::fmt;
 use std::fmt::Display;
 
 const MOST_ROOM: usize = 100;
-
-/// The numbers of a table's effects are below this.
-const MOST_EFFECTS: EffectNumber = 64;
 
 #[derive(Drop)]
 pub struct TableCase {
@@ -67,47 +64,35 @@ impl Trial for TableCase {
 
 impl fmt::Display for TableOutcome {
     fn fmt<W: fmt::Write>(&self, f: &mut fmt::Formatter<W>) -> fmt::Result {
-        let judgement = self.judgement;
-        write!(f, "{judgement} ")?;
+        write!(f, "{} ", self.judgement)?;
         match &self.table {
             Ok(table) => write_table(table, f),
-            Err(fault) => fault.refusal().fmt(f),
+            Err(fault) => Refusal::from(*fault).fmt(f),
         }
     }
 }
 
 fn write_table<W: fmt::Write>(table: &EffectTable, f: &mut fmt::Formatter<W>) -> fmt::Result {
-    let effects = table.effects();
-    let commands = table.commands();
-    let breaking = table.breaking();
-    write!(
-        f,
-        "effects {effects} commands {commands} breaking {breaking} numbers "
-    )?;
+    write!(f, "effects {} commands {} ", table.effects(), table.commands())?;
+    write!(f, "breaking {} numbers ", table.breaking())?;
     write_numbers(table, f)?;
-    let joins = join_checksum(table);
-    write!(f, " joins {joins}")
+    write!(f, " joins {}", join_checksum(table))
 }
 
 fn write_numbers<W: fmt::Write>(table: &EffectTable, f: &mut fmt::Formatter<W>) -> fmt::Result {
-    for c in 0..table.commands() {
-        if let Some(number) = table.command(c) {
-            let comma = if c == 0 { "" } else { "," };
-            write!(f, "{comma}{number}")?;
-        }
+    let numbers = (0..table.commands()).filter_map(|c| table.command(c));
+    for (i, number) in numbers.enumerate() {
+        let comma = if i == 0 { "" } else { "," };
+        write!(f, "{comma}{number}")?;
     }
     Ok(())
 }
 
 /// One number for all joins, row by row. A number that is no effect's has no join.
 fn join_checksum(table: &EffectTable) -> u32 {
-    let mut checksum: u32 = 0;
-    for i in 0..MOST_EFFECTS {
-        for j in 0..MOST_EFFECTS {
-            if let Some(number) = table.join(i, j) {
-                checksum = checksum.wrapping_mul(31).wrapping_add(u32::from(number)) % 65521;
-            }
-        }
-    }
-    checksum
+    (0..MOST_EFFECTS)
+        .flat_map(|i| (0..MOST_EFFECTS).filter_map(move |j| table.join(i, j)))
+        .fold(0u32, |checksum, number| {
+            checksum.wrapping_mul(31).wrapping_add(u32::from(number)) % 65521
+        })
 }

@@ -3,7 +3,8 @@
 //! A list of numbers is joined by commas, and bytes are in lower-case base sixteen. Each is `-` where
 //! it is empty.
 use crate::fault::Fault;
-use std::alloc::Global;
+use hex::FromHexError;
+use std::alloc::{AllocError, Global};
 use std::num::ParseIntError;
 use std::str::{FromStr, Split};
 
@@ -30,10 +31,10 @@ impl<'a> Words<'a> {
     }
 
     pub fn word(&mut self) -> Result<&'a str, Fault> {
-        match self.rest.next() {
-            Some(word) if !word.is_empty() => Ok(word),
-            _ => Err(Fault::Malformed),
-        }
+        self.rest
+            .next()
+            .filter(|word| !word.is_empty())
+            .ok_or(Fault::Malformed)
     }
 
     pub fn number<N: FromStr<Err = ParseIntError>>(&mut self) -> Result<N, Fault> {
@@ -61,40 +62,28 @@ pub fn read_number<N: FromStr<Err = ParseIntError>>(word: &str) -> Result<N, Fau
     if word.starts_with('+') {
         return Err(Fault::Malformed);
     }
-    Ok(word.parse::<N>()?)
+    word.parse::<N>().map_err(|_| Fault::Malformed)
 }
 
 pub fn read_numbers(heap: Global, word: &str) -> Result<Vec<u8>, Fault> {
-    let mut numbers = Vec::new(heap);
-    if word != NOTHING {
-        for number in word.split(',') {
-            numbers.push(read_number::<u8>(number)?)?;
-        }
+    if word == NOTHING {
+        return Ok(Vec::new(heap));
     }
-    Ok(numbers)
+    word.split(',')
+        .map(|number| read_number::<u8>(number))
+        .try_collect(heap)
 }
 
+/// Bytes in base sixteen. The letters are small, so the capitals that `decode` would take are refused.
 fn read_bytes(heap: Global, word: &str) -> Result<Vec<u8>, Fault> {
-    let mut bytes = Vec::new(heap);
-    if word != NOTHING {
-        for digits in word.as_bytes().chunks(2) {
-            bytes.push(hex_byte(digits)?)?;
-        }
+    if word == NOTHING {
+        return Ok(Vec::new(heap));
     }
-    Ok(bytes)
-}
-
-fn hex_byte(digits: &[u8]) -> Result<u8, Fault> {
-    let [high, low] = digits else {
+    if word.bytes().any(|byte| byte.is_ascii_uppercase()) {
         return Err(Fault::Malformed);
-    };
-    Ok(hex_digit(*high)? << 4 | hex_digit(*low)?)
-}
-
-fn hex_digit(digit: u8) -> Result<u8, Fault> {
-    match digit {
-        b'0'..=b'9' => Ok(digit - b'0'),
-        b'a'..=b'f' => Ok(digit - b'a' + 10),
-        _ => Err(Fault::Malformed),
     }
+    hex::decode(heap, word).map_err(|error| match error {
+        FromHexError::OutOfMemory => Fault::Memory(AllocError),
+        _ => Fault::Malformed,
+    })
 }

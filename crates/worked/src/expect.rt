@@ -1,6 +1,5 @@
 //! What the examples share.
 use foundation::refusal::{Layer, Refusal};
-use rules::fault::RuleFault;
 use rules::rule::OrderRule;
 use rules::table::EffectTable;
 use std::alloc::Global;
@@ -9,33 +8,53 @@ use std::test::Fail;
 
 /// What was made; a refusal fails the test.
 pub fn made<T, E: Drop>(outcome: Result<T, E>) -> Result<T, Fail> {
-    match outcome {
-        Ok(it) => Ok(it),
-        Err(_) => Err(Fail::new("refused")),
-    }
+    outcome.map_err(|_| Fail::new("refused"))
 }
 
 /// Why nothing was made; acceptance fails the test.
-pub fn fault<T: Drop, E>(outcome: Result<T, E>) -> Result<E, Fail> {
+pub fn refusal<T: Drop, F: Into<Refusal>>(outcome: Result<T, F>) -> Result<Refusal, Fail> {
     match outcome {
         Ok(_) => Err(Fail::new("accepted")),
-        Err(why) => Ok(why),
+        Err(fault) => Ok(fault.into()),
     }
 }
 
-/// Checks that no rule was made, and the place of the refusal.
-pub fn check_refused<R: Drop>(
+/// Checks that nothing was made, and how the refusal is told.
+pub fn check_refused<T: Drop, F: Into<Refusal>>(
     rt: &impl Abort,
-    rule: Result<R, RuleFault>,
-    place: usize,
+    outcome: Result<T, F>,
+    expected: Refusal,
 ) -> Result<(), Fail> {
-    let expected = Refusal {
-        number: 5,
-        layer: Layer::Rule,
-        place,
-    };
-    assert_eq!(rt; fault(rule)?.refusal(), expected);
+    assert_eq!(rt; refusal(outcome)?, expected);
     Ok(())
+}
+
+/// How a rule is refused.
+pub fn rule(place: usize) -> Refusal {
+    told(5, Layer::Rule, place)
+}
+
+/// How the effects of a rule are refused.
+pub fn effects(number: u8, place: usize) -> Refusal {
+    told(number, Layer::Effects, place)
+}
+
+/// How records are refused.
+pub fn records(number: u8, place: usize) -> Refusal {
+    told(number, Layer::Records, place)
+}
+
+/// How a solve is refused.
+pub fn solve(number: u8, place: usize) -> Refusal {
+    told(number, Layer::Solve, place)
+}
+
+fn told(number: u8, layer: Layer, place: usize) -> Refusal {
+    Refusal {
+        number,
+        layer,
+        place,
+    }
 }
 
 /// The effect table of a rule, made in a slice of its own.

@@ -1,6 +1,5 @@
 //! Pairs: what they permit and their effects.
-use crate::expect::{fault, made, table_of};
-use foundation::refusal::{Layer, Refusal};
+use crate::expect::{check_refused, effects, made, table_of};
 use rules::count::Count;
 use rules::lists::{Judgement, judge};
 use rules::pair::Pair;
@@ -46,17 +45,9 @@ fn has_63_effects_of_7_and_9(rt: HostRuntime) -> Result<(), Fail> {
 fn has_too_many_effects_of_8_and_9(rt: HostRuntime) -> Result<(), Fail> {
     let pair = Pair::new(multiples(8)?, multiples(9)?);
     let mut slice = [(255, 255); 64];
-    let expected = Refusal {
-        number: 6,
-        layer: Layer::Effects,
-        place: 64,
-    };
-    assert_eq!(rt;
-        fault(EffectTable::of(&pair, &mut slice))?.refusal(),
-        expected
-    );
-    for len in 0..64u8 {
-        assert_eq!(rt; slice[usize::from(len)], (len % 8, len % 9));
+    check_refused(&rt, EffectTable::of(&pair, &mut slice), effects(6, 64))?;
+    for (effect, len) in slice.iter().zip(0..64u8) {
+        assert_eq!(rt; *effect, (len % 8, len % 9));
     }
     Ok(())
 }

@@ -1,13 +1,12 @@
 //! Procedure sets: how they are read, their formulas and winning sets, and the refusals.
-use crate::expect::{fault, made, table_of};
-use formulas::fault::{RecordsFault, SolveFault};
+use crate::expect::{check_refused, made, records, solve, table_of};
+use formulas::fault::RecordsFault;
 use formulas::formula::Formula;
 use formulas::procedure_set::ProcedureSet;
 use formulas::solution::Solution;
 use formulas::symbol::Symbol;
 use formulas::winning_set::winning_set;
 use foundation::effect_set::EffectSet;
-use foundation::refusal::{Layer, Refusal};
 use rules::count::Count;
 use rules::table::EffectTable;
 use std::alloc::{AllocError, Global};
@@ -88,44 +87,12 @@ fn check_formula(
     formula: &Formula,
     clauses: &str,
 ) -> Result<(), Fail> {
-    let mut text = String::new(heap);
-    for (i, clause) in formula.clauses().iter().enumerate() {
-        text.push_str(if i == 0 { "" } else { "," })?;
-        text.push_str(clause.to_string(heap)?.as_str())?;
-    }
-    assert_eq!(rt; text.as_str(), clauses);
-    Ok(())
-}
-
-fn check_records(
-    rt: &impl Abort,
-    outcome: Result<ProcedureSet, RecordsFault>,
-    number: u8,
-    place: usize,
-) -> Result<(), Fail> {
-    let layer = Layer::Records;
-    let expected = Refusal {
-        number,
-        layer,
-        place,
-    };
-    assert_eq!(rt; fault(outcome)?.refusal(), expected);
-    Ok(())
-}
-
-fn check_unsolved(
-    rt: &impl Abort,
-    outcome: Result<Solution, SolveFault>,
-    number: u8,
-    place: usize,
-) -> Result<(), Fail> {
-    let layer = Layer::Solve;
-    let expected = Refusal {
-        number,
-        layer,
-        place,
-    };
-    assert_eq!(rt; fault(outcome)?.refusal(), expected);
+    let texts: Vec<String> = formula
+        .clauses()
+        .iter()
+        .map(|clause| clause.to_string(heap))
+        .try_collect(heap)?;
+    assert_eq!(rt; texts.join(heap, ",")?.as_str(), clauses);
     Ok(())
 }
 
@@ -147,7 +114,7 @@ fn solves_six_procedures(rt: HostRuntime) -> Result<(), Fail> {
 fn settles_six_procedures_in_round_four(rt: HostRuntime) -> Result<(), Fail> {
     let set = six_procedures(rt.alloc())?;
     let table = threes(rt.alloc())?;
-    check_unsolved(&rt, Solution::of(&set, &table, 3), 12, 3)?;
+    check_refused(&rt, Solution::of(&set, &table, 3), solve(12, 3))?;
     assert_eq!(rt; made(Solution::of(&set, &table, 4))?.round(), 4);
     Ok(())
 }
@@ -189,16 +156,10 @@ fn wins_from_these_counts(rt: HostRuntime) -> Result<(), Fail> {
 
 /// The station has P0 do one of the commands 0 to 7 and P1 one of 8 to 15, the field takes P0 or P1.
 fn eight_by_eight(heap: Global) -> Result<Vec<Record>, Fail> {
-    let mut records = Vec::new(heap);
-    for c in 0..8 {
-        records.push(one(0, STATION, c))?;
-    }
-    for c in 8..16 {
-        records.push(one(1, STATION, c))?;
-    }
-    records.push(one(2, FIELD, P0))?;
-    records.push(one(2, FIELD, P1))?;
-    Ok(records)
+    let low = (0..8).map(|c| one(0, STATION, c));
+    let high = (8..16).map(|c| one(1, STATION, c));
+    let choices = [one(2, FIELD, P0), one(2, FIELD, P1)];
+    Ok(low.chain(high).chain(choices).collect(heap)?)
 }
 
 /// The effect of each command is its own number.
@@ -209,13 +170,10 @@ fn sixteen_weights(heap: Global) -> Result<EffectTable, Fail> {
 
 /// A number below 8 and one from 8 to 15, in rising order.
 fn pairs_of_effects(heap: Global) -> Result<Vec<EffectSet>, Fail> {
-    let mut pairs = Vec::new(heap);
-    for high in 8..16 {
-        for low in 0..8 {
-            pairs.push(EffectSet::empty().with(low).with(high))?;
-        }
-    }
-    Ok(pairs)
+    let pairs = (8..16).flat_map(|high| {
+        (0..8).map(move |low| EffectSet::empty().with(low).with(high))
+    });
+    Ok(pairs.collect(heap)?)
 }
 
 #[test]
@@ -236,7 +194,11 @@ fn refuses_a_65th_clause(rt: HostRuntime) -> Result<(), Fail> {
     let mut records = eight_by_eight(heap)?;
     records.push(two(1, STATION, 15, 1))?;
     let set = made(read(heap, records.as_slice())?)?;
-    check_unsolved(&rt, Solution::of(&set, &sixteen_weights(heap)?, 3), 11, 2)
+    check_refused(
+        &rt,
+        Solution::of(&set, &sixteen_weights(heap)?, 3),
+        solve(11, 2),
+    )
 }
 
 /// The bytes are no records either, but the length is looked at first.
@@ -244,7 +206,7 @@ fn refuses_a_65th_clause(rt: HostRuntime) -> Result<(), Fail> {
 fn refuses_no_whole_records_and_too_many(rt: HostRuntime) -> Result<(), Fail> {
     for (len, place) in [(0, 0), (11, 0), (13, 1), (1537, 128), (1548, 129)] {
         let bytes = vec![in rt.alloc(); 255; len]?;
-        check_records(&rt, ProcedureSet::read(bytes.as_slice()), 1, place)?;
+        check_refused(&rt, ProcedureSet::read(bytes.as_slice()), records(1, place))?;
     }
     let bytes = empty(0, STATION).repeat(rt.alloc(), 128)?;
     assert_eq!(rt; made(ProcedureSet::read(bytes.as_slice()))?.len(), 128);
@@ -268,7 +230,11 @@ fn refuses_broken_records(rt: HostRuntime) -> Result<(), Fail> {
     ] {
         let mut broken = good;
         broken[at] = byte;
-        check_records(&rt, read(rt.alloc(), &[good, broken, broken])?, 2, 1)?;
+        check_refused(
+            &rt,
+            read(rt.alloc(), &[good, broken, broken])?,
+            records(2, 1),
+        )?;
     }
     assert_eq!(rt; made(read(rt.alloc(), &[good])?)?.len(), 1);
     Ok(())
@@ -282,10 +248,18 @@ fn refuses_records_in_order(rt: HostRuntime) -> Result<(), Fail> {
     let broken = empty(32, FIELD);
     let (ours, theirs) = (empty(1, STATION), empty(1, FIELD));
     let stray = one(0, FIELD, P2);
-    check_records(&rt, read(heap, &[stray, ours, theirs, broken])?, 2, 3)?;
-    check_records(&rt, read(heap, &[stray, ours, theirs, ours])?, 3, 2)?;
-    check_records(&rt, read(heap, &[theirs, ours, stray])?, 3, 1)?;
-    check_records(&rt, read(heap, &[ours, ours, stray, stray])?, 4, 2)
+    check_refused(
+        &rt,
+        read(heap, &[stray, ours, theirs, broken])?,
+        records(2, 3),
+    )?;
+    check_refused(
+        &rt,
+        read(heap, &[stray, ours, theirs, ours])?,
+        records(3, 2),
+    )?;
+    check_refused(&rt, read(heap, &[theirs, ours, stray])?, records(3, 1))?;
+    check_refused(&rt, read(heap, &[ours, ours, stray, stray])?, records(4, 2))
 }
 
 /// The allowance is looked at first.
@@ -294,8 +268,8 @@ fn refuses_an_allowance_and_then_a_command(rt: HostRuntime) -> Result<(), Fail> 
     let table = threes(rt.alloc())?;
     let records = [empty(0, FIELD), two(0, FIELD, 0, 1), one(0, FIELD, 1)];
     let set = made(read(rt.alloc(), &records)?)?;
-    check_unsolved(&rt, Solution::of(&set, &table, 0), 8, 0)?;
-    check_unsolved(&rt, Solution::of(&set, &table, 1001), 8, 0)?;
-    check_unsolved(&rt, Solution::of(&set, &table, 1), 10, 1)?;
-    check_unsolved(&rt, Solution::of(&set, &table, 1000), 10, 1)
+    check_refused(&rt, Solution::of(&set, &table, 0), solve(8, 0))?;
+    check_refused(&rt, Solution::of(&set, &table, 1001), solve(8, 0))?;
+    check_refused(&rt, Solution::of(&set, &table, 1), solve(10, 1))?;
+    check_refused(&rt, Solution::of(&set, &table, 1000), solve(10, 1))
 }

@@ -1,6 +1,5 @@
 //! Effect tables: what they answer, and what becomes of the slice.
-use crate::expect::{fault, made, table_of};
-use foundation::refusal::{Layer, Refusal};
+use crate::expect::{check_refused, effects, made, refusal, table_of};
 use rules::count::Count;
 use rules::pair::Pair;
 use rules::rule::OrderRule;
@@ -41,15 +40,7 @@ fn numbers_effects_as_they_are_met(rt: HostRuntime) -> Result<(), Fail> {
 fn refuses_a_short_slice_and_keeps_it(rt: HostRuntime) -> Result<(), Fail> {
     let count = made(Count::new(3, &[1], 1))?;
     let mut slice = [200; 63];
-    let expected = Refusal {
-        number: 7,
-        layer: Layer::Effects,
-        place: 63,
-    };
-    assert_eq!(rt;
-        fault(EffectTable::of(&count, &mut slice))?.refusal(),
-        expected
-    );
+    check_refused(&rt, EffectTable::of(&count, &mut slice), effects(7, 63))?;
     assert_eq!(rt; slice, [200; 63]);
     Ok(())
 }
@@ -70,7 +61,7 @@ fn keeps_the_slice_past_64_refused_effects(rt: HostRuntime) -> Result<(), Fail> 
     let nines = made(Count::new(9, &[1], 1))?;
     let mut slice = [(200, 200); 70];
     let refused = EffectTable::of(&Pair::new(eights, nines), &mut slice);
-    assert_eq!(rt; fault(refused)?.refusal().number, 6);
+    assert_eq!(rt; refusal(refused)?.number, 6);
     assert_eq!(rt; slice[63], (7, 0));
     assert_eq!(rt; &slice[64..70], [(200, 200); 6].as_slice());
     Ok(())

@@ -1,6 +1,6 @@
 //! Reading a procedure set from its bytes, in three passes: forms, owners, bodies.
 ghost use Rattle.std.specs.Prelude.{◌≡◌, List, map, Result};
-ghost use Rattle.foundation.specs.Tests.{all};
+ghost use Rattle.std.specs.List.{list_all};
 ghost use Rattle.formulas.specs.Checks.{agreed, recorded, bodied};
 ghost use Rattle.formulas.specs.Entries.{entry_of};
 ghost use Rattle.formulas.specs.Records.{viewed, listed, read_records, read_set, Read};
@@ -77,7 +77,7 @@ fn first_unrecorded(records: &[Record]) -> Option<usize>
 }
 
 fn all_recorded(records: &[Record], body: &[Symbol]) -> bool
-    ensures { result ≡ all (recorded (map entry_of records.now)) body.now }
+    ensures { result ≡ list_all (recorded (map entry_of records.now)) body.now }
 {
     body.iter().all(|symbol| is_recorded(records, *symbol))
 }

@@ -2,7 +2,7 @@
 ghost use Rattle.std.specs.Prelude.{◌≡◌, ◌≤◌, length, nat_eq};
 ghost use Rattle.std.specs.Option.{option_map};
 ghost use Rattle.foundation.specs.Bounds.{items};
-ghost use Rattle.foundation.specs.Tests.{all};
+ghost use Rattle.std.specs.List.{list_all};
 ghost use Rattle.formulas.specs.Entries.{entry_of};
 ghost use Rattle.formulas.specs.RecordForms.{symbols_in, entry_in};
 
@@ -68,7 +68,7 @@ impl Record {
 }
 
 fn is_filled(bytes: &[u8]) -> bool
-    ensures { result ≡ all (λ b. nat_eq b 255) bytes.now }
+    ensures { result ≡ list_all (λ b. nat_eq b 255) bytes.now }
 {
     bytes.iter().all(|byte| *byte == FILL)
 }

@@ -9,28 +9,22 @@ ghost use Rattle.formulas.specs.Rounds.{mixed_with, next_formula, next_round};
 
 use crate::fault::{Overflow, SolveFault};
 use crate::formula::Formula;
-use crate::procedure_set::ProcedureSet;
+use crate::problem::Problem;
 use crate::round::Round;
 use crate::symbol::{Owner, PROCEDURES, Procedure};
-use rules::table::EffectTable;
 
 impl Round {
     /// The formula of a procedure in the next round: its bodies by the number of their records.
-    fn next_formula(
-        &self,
-        set: &ProcedureSet,
-        table: &EffectTable,
-        p: Procedure,
-    ) -> Result<Formula, Overflow>
-        ensures { found result ≡ next_formula 64 (view table.now) (entries set.now) (formulas_of self.now) p }
+    fn next_formula(&self, problem: &Problem<'_>, p: Procedure) -> Result<Formula, Overflow>
+        ensures { found result ≡ next_formula 64 (view problem.now.table.now) (entries problem.now.set.now) (formulas_of self.now) p }
     {
-        let Some(owner) = set.owner(p) else {
+        let Some(owner) = problem.set.owner(p) else {
             return Ok(Formula::impossible());
         };
         let mut so_far = None;
-        for record in set.records() {
+        for record in problem.set.records() {
             if record.procedure() == p {
-                let formula = self.body_formula(table, record.body())?;
+                let formula = self.body_formula(problem.table, record.body())?;
                 so_far = Some(combine(so_far, owner, formula)?);
             }
         }
@@ -38,13 +32,13 @@ impl Round {
     }
 
     /// The next round, or the first procedure whose formula would have a clause too many.
-    pub(crate) fn next(&self, set: &ProcedureSet, table: &EffectTable) -> Result<Round, SolveFault>
-        ensures { round_viewed result ≡ round_answer (next_round 64 (entries set.now) (view table.now) (formulas_of self.now)) }
+    pub(crate) fn next(&self, problem: &Problem<'_>) -> Result<Round, SolveFault>
+        ensures { round_viewed result ≡ round_answer (next_round 64 (entries problem.now.set.now) (view problem.now.table.now) (formulas_of self.now)) }
     {
         let mut formulas = [Formula::impossible(); PROCEDURES as usize];
         for (p, formula) in formulas.iter_mut().enumerate() {
             let p = p as Procedure;
-            let Ok(next) = self.next_formula(set, table, p) else {
+            let Ok(next) = self.next_formula(problem, p) else {
                 return Err(SolveFault::TooManyClauses(p));
             };
             *formula = next;

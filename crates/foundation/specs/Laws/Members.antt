@@ -1,4 +1,4 @@
--- The laws of the members of a set, for any width.
+-- The laws of the members of a set, for list_any width.
 use Rattle.std.specs.Prelude.{◌≡◌, ℕ, zero, suc, ◌+◌, ◌-◌, ◌*◌, ◌/◌, ◌%◌, ◌^◌, ◌<◌, ◌≤◌, min, Bool, true, false, cond, not, ◌&&◌, ◌||◌, List, [], ◌∷◌, map, length, Decides, ◌==◌, bit_and, bit_or, nat_eq, refl}
 use Rattle.std.proofs.Common.{sym, ap, ap₂, ◌∙◌, ⊎_elim, le_refl, not-suc-le-zero, pow-suc, arith}
 use Rattle.std.proofs.Math.Path.{fun_ext}
@@ -15,10 +15,10 @@ use Rattle.std.proofs.lemmas.List.{length-map}
 use Rattle.std.proofs.lemmas.Bool.{eqb-true, eqb-false, eq-eqb, ne_eqb, cond-true, cond-false, and_parts, and_from, not-true, not_from_false, false≢true}
 use Rattle.foundation.specs.Bits.{has}
 use Rattle.foundation.specs.Sets.{within, members_in, members, gathered, hits}
-use Rattle.foundation.specs.Tests.{any}
+use Rattle.std.specs.List.{list_any}
 use Rattle.foundation.specs.Laws.Bits.{two_ways, has-or, has-and, has-zero, some_bit, same_tests}
 use Rattle.foundation.specs.Laws.Sets.{has_half, has_low, eqb_suc}
-use Rattle.foundation.specs.Laws.Tests.{any-map, any_in, in_any}
+use Rattle.foundation.specs.Laws.Tests.{list_any-map, any_in, in_any}
 
 -- ---- one place after the other
 
@@ -41,19 +41,19 @@ pub members-none : members 0 ≡ []
 unfolding members members_in
 members-none = refl
 
-any_front : (A : ℕ → Bool) (b : Bool) (l : List ℕ) → any A (cond b (0 ∷ l) l) ≡ ((b && A 0) || any A l)
+any_front : (A : ℕ → Bool) (b : Bool) (l : List ℕ) → list_any A (cond b (0 ∷ l) l) ≡ ((b && A 0) || list_any A l)
 any_front A true l = refl
 any_front A false l = refl
 
 hits_step : (A : ℕ → Bool) (s : ℕ) → hits A s ≡ ((s % 2 == 1 && A 0) || hits (λ k. A (suc k)) (s / 2))
 hits_step A s =
-    ap (any A) (members_step s) ∙ any_front A (s % 2 == 1) (map suc (members (s / 2)))
-    ∙ ap (λ b. (s % 2 == 1 && A 0) || b) (any-map A suc (members (s / 2)))
+    ap (list_any A) (members_step s) ∙ any_front A (s % 2 == 1) (map suc (members (s / 2)))
+    ∙ ap (λ b. (s % 2 == 1 && A 0) || b) (list_any-map A suc (members (s / 2)))
 
 -- ---- what a set hits
 
 pub hits-none : (A : ℕ → Bool) → hits A 0 ≡ false
-hits-none A = ap (any A) members-none
+hits-none A = ap (list_any A) members-none
 
 shuffle : (x y a u v : Bool) → (((x || y) && a) || (u || v)) ≡ (((x && a) || u) || ((y && a) || v))
 shuffle true true true u v = refl
@@ -84,7 +84,7 @@ hits_one A (suc k) =
     let half : 2 ^ suc k / 2 ≡ 2 ^ k = omega arith in
     hits_step A (2 ^ suc k) ∙ rw (even, half) (hits_one (λ k. A (suc k)) k)
 
-pub hits-gathered : (A : ℕ → Bool) (ks : List ℕ) → hits A (gathered ks) ≡ any A ks
+pub hits-gathered : (A : ℕ → Bool) (ks : List ℕ) → hits A (gathered ks) ≡ list_any A ks
 hits-gathered A [] = hits-none A
 hits-gathered A (k ∷ ks) = hits-or (2 ^ k) (gathered ks) A ∙ ap₂ (λ (x y : Bool). x || y) (hits_one A k) (hits-gathered A ks)
 
@@ -156,11 +156,11 @@ pub hits-has : (s k : ℕ) → hits (λ i. nat_eq i k) s ≡ has s k
 hits-has =
     bin_ind (λ (s : ℕ). (k : ℕ) → hits (λ i. nat_eq i k) s ≡ has s k) (λ k. hits-none (λ i. nat_eq i k) ∙ sym (has-zero k)) step
   where
-    low : (s : ℕ) (b : Bool) → any (λ _. false) (members s) ≡ false → ((b && true) || hits (λ _. false) s) ≡ b
+    low : (s : ℕ) (b : Bool) → list_any (λ _. false) (members s) ≡ false → ((b && true) || hits (λ _. false) s) ≡ b
     low s true n = refl
     low s false n = n
 
-    nothing : (l : List ℕ) → any (λ _. false) l ≡ false
+    nothing : (l : List ℕ) → list_any (λ _. false) l ≡ false
     nothing [] = refl
     nothing (k ∷ l) = nothing l
 

@@ -3,7 +3,7 @@ ghost use Rattle.std.specs.Prelude.{◌≡◌, MatchOption, MatchResult};
 ghost use Rattle.rules.specs.Automata.{Formed, Chartable, Unchartable};
 ghost use Rattle.rules.specs.Boxes.{Charts};
 ghost use Rattle.rules.specs.ChartRecords.{Reads, Inside, drawn_boxes, drawn_finals};
-ghost use Rattle.rules.specs.contracts.chart.ChartOrderRule.TheImpl.{ghosts};
+ghost use Rattle.rules.specs.Kinds.{chart_meaning};
 
 use crate::chart::Chart;
 use crate::fault::RuleFault;
@@ -43,7 +43,7 @@ impl ChartRecord {
 impl Chart {
     /// A chart from its records, 12 bytes each, back to back.
     pub fn new(bytes: &[u8]) -> Result<Chart, RuleFault>
-        ensures { MatchResult result (λ x. Chartable bytes.now × Charts bytes.now (ghosts.meaning x)) (λ f. Unchartable bytes.now f) }
+        ensures { MatchResult result (λ x. Chartable bytes.now × Charts bytes.now (chart_meaning x)) (λ f. Unchartable bytes.now f) }
     {
         let whole = bytes.len() / RECORD_LEN;
         if bytes.len() % RECORD_LEN != 0 || whole > MOST_RECORDS {
@@ -53,12 +53,8 @@ impl Chart {
             boxes: [0; 16],
             finals: [false; 8],
         };
-        for i in 0..whole {
-            let at = RECORD_LEN * i;
-            let Some(item) = ChartRecord::read(&bytes[at..at + RECORD_LEN]) else {
-                return Err(RuleFault::ChartRecord(i));
-            };
-            chart.draw(item);
+        for (i, record) in bytes.chunks_exact(RECORD_LEN).enumerate() {
+            chart.draw(ChartRecord::read(record).ok_or(RuleFault::ChartRecord(i))?);
         }
         Ok(chart)
     }

@@ -1,7 +1,7 @@
 //! Making a count from its numbers.
 ghost use Rattle.std.specs.Result.{MatchResult};
 ghost use Rattle.rules.specs.Counting.{Counts, Countable, Uncountable};
-ghost use Rattle.rules.specs.contracts.count.CountOrderRule.TheImpl.{ghosts};
+ghost use Rattle.rules.specs.Kinds.{count_meaning};
 
 use crate::count::Count;
 use crate::fault::RuleFault;
@@ -10,21 +10,17 @@ use foundation::bounded::Bounded;
 impl Count {
     /// A count from its modulus, one weight for each command, and the mask of permitted residues.
     pub fn new(modulus: u8, weights: &[u8], permitted: u64) -> Result<Count, RuleFault>
-        ensures made { MatchResult result (λ x. Countable modulus weights.now permitted × Counts modulus weights.now permitted (ghosts.meaning x)) (λ f. Uncountable modulus weights.now permitted f) }
+        ensures made { MatchResult result (λ x. Countable modulus weights.now permitted × Counts modulus weights.now permitted (count_meaning x)) (λ f. Uncountable modulus weights.now permitted f) }
     {
         if modulus == 0 || modulus > 64 {
             return Err(RuleFault::Modulus);
         }
-        let Some(kept) = Bounded::<u8, 16>::from_slice(weights, 0) else {
-            return Err(RuleFault::WeightCount);
-        };
+        let kept = Bounded::<u8, 16>::from_slice(weights, 0).ok_or(RuleFault::WeightCount)?;
         if weights.is_empty() {
             return Err(RuleFault::WeightCount);
         }
-        for (i, weight) in weights.iter().enumerate() {
-            if *weight >= modulus {
-                return Err(RuleFault::Weight(i as u8));
-            }
+        if let Some(i) = weights.iter().position(|weight| *weight >= modulus) {
+            return Err(RuleFault::Weight(i as u8));
         }
         if modulus < 64 && permitted >> modulus != 0 {
             return Err(RuleFault::Mask);

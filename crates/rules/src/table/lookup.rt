@@ -12,7 +12,7 @@ impl EffectTable {
     pub fn effects(&self) -> usize
         ensures { result ≡ (view self.now).count }
     {
-        self.count
+        self.joins.len()
     }
 
     pub fn commands(&self) -> u8
@@ -32,12 +32,8 @@ impl EffectTable {
     pub fn join(&self, i: EffectNumber, j: EffectNumber) -> Option<EffectNumber>
         ensures { result ≡ table_join (view self.now) i j }
     {
-        let (row, column) = (usize::from(i), usize::from(j));
-        if row < self.count && column < self.count {
-            Some(self.joins[row][column])
-        } else {
-            None
-        }
+        let row = self.joins.as_slice().get(usize::from(i))?;
+        row.get(usize::from(j))
     }
 
     /// The numbers of the effects that break the rule.

@@ -4,7 +4,7 @@ ghost use Rattle.std.specs.List.{AllByRecursion};
 ghost use Rattle.rules.specs.Behaviours.{behaviour};
 ghost use Rattle.foundation.specs.Bounds.{items};
 ghost use Rattle.rules.specs.Register.{place};
-ghost use Rattle.rules.specs.Surveys.{viewed, tabled, slice_after, Surveyed, AllMet};
+ghost use Rattle.rules.specs.Surveys.{view, viewed, tabled, slice_after, Surveyed, AllMet};
 ghost use Rattle.rules.specs.Tables.{numbered, join_row, effects_table};
 
 use crate::fault::EffectsFault;
@@ -25,34 +25,31 @@ impl EffectTable {
         if slice.len() < ROOM {
             return Err(EffectsFault::ShortSlice(slice.len()));
         }
-        let Some(count) = register(rule, slice) else {
-            return Err(EffectsFault::TooMany);
-        };
-        let met = &slice[0..count];
-        let numbers = number_commands(rule, met);
-        let joins = join_all(rule, met);
-        let breaking = breaking_set(rule, met);
-        Ok(EffectTable {
-            count,
-            numbers,
-            joins,
-            breaking,
-        })
+        let count = register(rule, slice).ok_or(EffectsFault::TooMany)?;
+        Ok(table_of(rule, &slice[..count]))
+    }
+}
+
+/// The table of all effects that were met.
+fn table_of<R: OrderRule>(rule: &R, met: &[R::Effect]) -> EffectTable
+    requires { AllMet (R.OrderRule.meaning rule.now) met.now }
+    ensures { view result ≡ effects_table (R.OrderRule.meaning rule.now) met.now }
+{
+    EffectTable {
+        numbers: number_commands(rule, met),
+        joins: join_all(rule, met),
+        breaking: breaking_set(rule, met),
     }
 }
 
 /// The number of an effect that was met.
 fn number_of<R: OrderRule>(rule: &R, met: &[R::Effect], e: R::Effect) -> EffectNumber
-    requires few { length met.now ≤ 64 }
-    requires met { AllByRecursion (R.OrderRule.meaning rule.now).own met.now }
+    requires all { AllMet (R.OrderRule.meaning rule.now) met.now }
     requires own { (R.OrderRule.meaning rule.now).own e }
     requires known { is_some (place (R.OrderRule.meaning rule.now).same 0 met.now e) ≡ true }
     ensures { result ≡ numbered (R.OrderRule.meaning rule.now).same met.now e }
 {
-    match find(rule, met, e) {
-        Some(n) => n as EffectNumber,
-        None => unreachable(),
-    }
+    find(rule, met, e).unwrap() as EffectNumber
 }
 
 fn number_commands<R: OrderRule>(rule: &R, met: &[R::Effect]) -> Bounded<EffectNumber, 16>
@@ -61,37 +58,34 @@ fn number_commands<R: OrderRule>(rule: &R, met: &[R::Effect]) -> Bounded<EffectN
 {
     let mut numbers = Bounded::<EffectNumber, 16>::empty(0);
     for c in 0..rule.commands() {
-        let Some(effect) = rule.command(c) else {
-            unreachable()
-        };
-        let Ok(()) = numbers.push(number_of(rule, met, effect)) else {
-            unreachable()
-        };
+        let effect = rule.command(c).unwrap();
+        numbers.push(number_of(rule, met, effect)).unwrap();
     }
     numbers
 }
 
 /// The numbers of `a` joined with each effect.
-fn join_each<R: OrderRule>(rule: &R, met: &[R::Effect], a: R::Effect) -> [EffectNumber; 64]
+fn join_each<R: OrderRule>(rule: &R, met: &[R::Effect], a: R::Effect) -> Bounded<EffectNumber, 64>
     requires all { AllMet (R.OrderRule.meaning rule.now) met.now }
     requires known { is_some (place (R.OrderRule.meaning rule.now).same 0 met.now a) ≡ true }
     requires own { (R.OrderRule.meaning rule.now).own a }
-    ensures { take (length met.now) result ≡ join_row (R.OrderRule.meaning rule.now).same (R.OrderRule.meaning rule.now).join met.now a }
+    ensures { items result ≡ join_row (R.OrderRule.meaning rule.now).same (R.OrderRule.meaning rule.now).join met.now a }
 {
-    let mut row = [0; 64];
-    for (j, b) in met.iter().enumerate() {
-        row[j] = number_of(rule, met, rule.join(a, *b));
+    let mut row = Bounded::<EffectNumber, 64>::empty(0);
+    for b in met {
+        row.push(number_of(rule, met, rule.join(a, *b))).unwrap();
     }
     row
 }
 
-fn join_all<R: OrderRule>(rule: &R, met: &[R::Effect]) -> [[EffectNumber; 64]; 64]
+/// A row for each effect.
+fn join_all<R: OrderRule>(rule: &R, met: &[R::Effect]) -> Bounded<Bounded<EffectNumber, 64>, 64>
     requires { AllMet (R.OrderRule.meaning rule.now) met.now }
-    ensures { map (take (length met.now)) (take (length met.now) result) ≡ (effects_table (R.OrderRule.meaning rule.now) met.now).joins }
+    ensures { map items (items result) ≡ (effects_table (R.OrderRule.meaning rule.now) met.now).joins }
 {
-    let mut joins = [[0; 64]; 64];
-    for (i, a) in met.iter().enumerate() {
-        joins[i] = join_each(rule, met, *a);
+    let mut joins = Bounded::<Bounded<EffectNumber, 64>, 64>::empty(Bounded::empty(0));
+    for a in met {
+        joins.push(join_each(rule, met, *a)).unwrap();
     }
     joins
 }

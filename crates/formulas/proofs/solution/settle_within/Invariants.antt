@@ -7,4 +7,4 @@ use Rattle.formulas.specs.Solving.{settle}
 use Rattle.formulas.proofs.solution.settle_within.Given as goal
 
 abbrev pub invariant-loop-done : goal.invariant-loop-done
-invariant-loop-done l = settle (entries l.set) (view l.table) (l.allowance - l.done) l.done (formulas_of l.round) ≡ settle (entries l.set) (view l.table) l.allowance 0 first_round
+invariant-loop-done l = settle (entries l.problem.set.now) (view l.problem.table.now) (l.allowance - l.done) l.done (formulas_of l.round) ≡ settle (entries l.problem.set.now) (view l.problem.table.now) l.allowance 0 first_round

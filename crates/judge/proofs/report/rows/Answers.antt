@@ -8,12 +8,8 @@ use Rattle.formulas.specs.Solutions.{settled_of}
 use Rattle.formulas.proofs.Nexts.{procedures_are}
 use Rattle.formulas.proofs.Pushes.{pushed}
 use Rattle.judge.specs.Rows.{rows_below}
-use Rattle.judge.proofs.Telling.{rows_few, telling_none, telling_more}
+use Rattle.judge.proofs.Telling.{rows_few, telling_more}
 use Rattle.judge.proofs.report.rows.Goals as goal
-
-pub loop-procedure-preserved-in_default : goal.loop-procedure-preserved-in_default
-loop-procedure-preserved-in_default c =
-    telling_none (entries c.args.set.now) (settled_of c.args.solution.now).formulas c.loop-procedure.procedure (items c.loop-procedure.told) c.loop-procedure.invariant c.in_default.ensures
 
 pub loop-procedure-preserved : goal.loop-procedure-preserved
 loop-procedure-preserved c =

@@ -1,12 +1,15 @@
-use Rattle.std.proofs.Common.{◌≡◌, ◌*◌, ◌/◌, ◌%◌, ap, ◌∙◌, arith}
-use Rattle.foundation.specs.Bits.{number}
-use Rattle.rules.specs.Boxes.{through, composed}
-use Rattle.rules.proofs.Joins.{rows_more}
+use Rattle.std.proofs.Common.{refl, rules, arith}
+use Rattle.std.specs.List.{range_with_len}
+use Rattle.std.proofs.iter.Yields.{nat_range_steps}
+use Rattle.std.proofs.lemmas.Fn.{fold_over}
+use Rattle.std.proofs.lemmas.Iterator.{YieldsList-from_range}
+use Rattle.rules.proofs.Joins.{So, Turn, so_more, so_all}
 use Rattle.rules.proofs.chart.compose.Goals as goal
 
-pub loop-p-preserved : goal.loop-p-preserved
-loop-p-preserved c = rows_more c.args.a c.args.b c.loop-p.p c.loop-p.joined c.row.result (omega arith) c.loop-p.invariant c.row.ensures.small c.row.ensures.bits
-
 pub returns : goal.returns
-unfolding composed
-returns c = let e : 8 * c.loop-p.p ≡ 64 = omega arith in c.loop-p.invariant ∙ ap (number (λ k. through c.args.a c.args.b (k / 8) (k % 8))) e
+returns c =
+    let a = c.args.a in
+    let b = c.args.b in
+    so_all a b c.fold.result
+    (fold_over nat_range_steps (λ p. p) _ (So a b) _ (λ ps joined p more f so k. (let t : Turn a b joined p more = search rules in so_more a b ps joined p more so t, search rules))
+    (record { start = 0; end = 8 }) (range_with_len 0 8) 0 c.fold.result (YieldsList-from_range 0 8 8 refl (omega arith)).runs (λ _ _. refl) c.fold.ensures.ran)

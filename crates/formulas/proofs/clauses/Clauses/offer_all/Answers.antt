@@ -1,7 +1,6 @@
-use Rattle.std.proofs.Common.{Some, None, drop, sym, ap, ◌∙◌}
+use Rattle.std.proofs.Common.{Some, None, sym, ◌∙◌}
 use Rattle.std.proofs.lemmas.List.{drop_all}
 use Rattle.formulas.specs.Clauses.{clause_list}
-use Rattle.formulas.specs.Formulas.{offers}
 use Rattle.formulas.proofs.Offers.{drop_item, offers_from, offers_end, offered_err}
 use Rattle.formulas.proofs.clauses.Clauses.offer_all.Goals as goal
 

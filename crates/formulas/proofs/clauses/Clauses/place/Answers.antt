@@ -1,4 +1,4 @@
-use Rattle.std.proofs.Common.{rules, ◌≡◌, length, get_or, sym, subst, ap, ◌∙◌, arith}
+use Rattle.std.proofs.Common.{rules, ◌≡◌, length, get_or, subst, ap, ◌∙◌, arith}
 use Rattle.formulas.specs.Clauses.{clause_list, Stands}
 use Rattle.formulas.proofs.Normals.{climbs_ordered}
 use Rattle.formulas.proofs.Offering.{spot_here, spot_end}

@@ -6,4 +6,4 @@ use Rattle.formulas.proofs.Nexts.{Gathering}
 use Rattle.formulas.proofs.round.Round.next.Given as goal
 
 abbrev pub invariant-loop-p : goal.invariant-loop-p
-invariant-loop-p l = (length l.formula-items ≡ 32) × Gathering (view l.table) (entries l.set) (formulas_of l.self) l.formula-items l.p
+invariant-loop-p l = (length l.formula-items ≡ 32) × Gathering (view l.problem.table.now) (entries l.problem.set.now) (formulas_of l.self) l.formula-items l.p

@@ -7,4 +7,4 @@ use Rattle.formulas.proofs.CombiningOn.{Combining}
 use Rattle.formulas.proofs.round.Round.next_formula.Given as goal
 
 abbrev pub invariant-loop-record : goal.invariant-loop-record
-invariant-loop-record l = Combining 64 (view l.table) (formulas_of l.self) (entries l.set) l.p l.owner (option_map formula_list l.so_far) l.record-index
+invariant-loop-record l = Combining 64 (view l.problem.table.now) (formulas_of l.self) (entries l.problem.set.now) l.p l.owner (option_map formula_list l.so_far) l.record-index

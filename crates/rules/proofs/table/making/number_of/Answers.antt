@@ -1,8 +1,11 @@
-use Rattle.std.proofs.Common.{arith}
-use Rattle.rules.proofs.Tabling.{place_below}
+use Rattle.std.proofs.Common.{rules, arith}
+use Rattle.rules.proofs.Tabling.{met_few, met_own}
 use Rattle.rules.proofs.table.making.number_of.Goals as goal
+
+pub find-requires-clause-met : goal.find-requires-clause-met
+find-requires-clause-met g c = met_own (g.R.OrderRule.meaning c.args.rule.now) (g.R.OrderRule.lawful c.args.rule.now) c.args.met.now c.requires.all
 
 pub overflow_cast-result : goal.overflow_cast-result
 overflow_cast-result g c =
-    let m = g.R.OrderRule.meaning c.args.rule.now in
-    omega (arith, place_below m.same m.neutral c.args.met.now c.args.e c.in-Some.n c.in-Some.ensures, c.requires.few)
+    let few = met_few (g.R.OrderRule.meaning c.args.rule.now) (g.R.OrderRule.lawful c.args.rule.now) c.args.met.now c.requires.all in
+    search rules
