@@ -4,13 +4,12 @@ use Rattle.std.specs.Cmp.Lexicographic.{pointwise, bytes_decides}
 use Rattle.std.specs.Ordering.{on}
 use Rattle.std.specs.Prelude.{nat_eq}
 use Rattle.foundation.specs.Bits.{has}
-use Rattle.formulas.specs.declared.formula.Formula.{Formula}
 use Rattle.formulas.specs.Formulas.{meets}
-use Rattle.formulas.specs.FormulaViews.{formula_list, ToldApart}
+use Rattle.formulas.specs.FormulaViews.{FormulaSeen, formula_list, ToldApart}
 use Rattle.formulas.proofs.Normals.{test_normal, same_formula}
 
 -- the test of two formulas' clauses, which `==` answers and `!=` negates, tells them apart
-pub formulas_told : (a b : Formula) → ToldApart (formula_list a) (formula_list b) (on formula_list (pointwise nat_eq) a b)
+pub formulas_told : (a b : FormulaSeen) → ToldApart (formula_list a) (formula_list b) (on formula_list (pointwise nat_eq) a b)
 formulas_told a b =
     let F = formula_list a in
     let G = formula_list b in

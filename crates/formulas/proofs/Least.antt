@@ -7,14 +7,13 @@ use Rattle.foundation.specs.Laws.Bits.{same_tests}
 use Rattle.foundation.specs.Laws.Tests.{any_in, in_any, all_in, in_all}
 use Rattle.rules.specs.Tables.{Table}
 use Rattle.formulas.specs.declared.fault.Overflow.{Overflow}
-use Rattle.formulas.specs.declared.formula.Formula.{Formula}
 use Rattle.formulas.specs.declared.symbol.Owner.{Owner}
 use Rattle.formulas.specs.declared.symbol.Owner.TheVariants.{Station, Field}
 use Rattle.formulas.specs.declared.symbol.Symbol.{Symbol}
 use Rattle.formulas.specs.declared.symbol.Symbol.TheVariants.{Command, Procedure}
 use Rattle.formulas.specs.Equations.{WinsBody, Solves, LeastSolution, FirstSettled, SettledLists, WonByTrees, MeetsByTrees}
 use Rattle.formulas.specs.Formulas.{meets, then}
-use Rattle.formulas.specs.FormulaViews.{formula_list, found}
+use Rattle.formulas.specs.FormulaViews.{FormulaSeen, formula_list, found}
 use Rattle.formulas.specs.Rounds.{formula_at, in_front, body_formula, next_formula, next_round, round}
 use Rattle.formulas.specs.Steps.{bind}
 use Rattle.formulas.specs.Symbols.{Entry, Of, Agree, bodies, owner_of}
@@ -134,6 +133,6 @@ module _ (t : Table) (m : Monoid t) (rs : List Entry) (lists : ℕ → List ℕ)
       body_same L M h (y ∷ s) = ap₂ bind (body_same L M h s) (front_same L M h y)
 
   -- the code's answer for a form
-  pub form_answer : (L : List (List ℕ)) → ((x : ℕ) → formula_at L x ≡ lists x) → (s : List Symbol) (r : Result Formula Overflow) → found r ≡ body_formula 64 t L s → IfOk r (λ f. MeetsByTrees rs t s (formula_list f))
+  pub form_answer : (L : List (List ℕ)) → ((x : ℕ) → formula_at L x ≡ lists x) → (s : List Symbol) (r : Result FormulaSeen Overflow) → found r ≡ body_formula 64 t L s → IfOk r (λ f. MeetsByTrees rs t s (formula_list f))
   form_answer L are s (Ok f) e = form_trees L are s (formula_list f) (sym e)
   form_answer L are s (Err x) e = tt

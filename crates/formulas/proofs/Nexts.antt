@@ -3,8 +3,7 @@ use Rattle.std.proofs.Common.{◌≡◌, ℕ, suc, ◌+◌, ◌-◌, ◌<◌, �
 use Rattle.std.specs.List.{range_with_len}
 use Rattle.std.proofs.lemmas.List.{append_assoc, append-nil, map-append, take_all, take_more_set}
 use Rattle.rules.specs.Tables.{Table}
-use Rattle.formulas.specs.declared.formula.Formula.{Formula}
-use Rattle.formulas.specs.FormulaViews.{formula_list}
+use Rattle.formulas.specs.FormulaViews.{FormulaSeen, formula_list}
 use Rattle.formulas.specs.Rounds.{procedures, next_formula, with_first, each_formula, next_round}
 use Rattle.formulas.specs.Symbols.{Entry}
 
@@ -30,17 +29,17 @@ module _ (f : ℕ → Option (List ℕ)) where
 
 module _ (t : Table) (rs : List Entry) (L : List (List ℕ)) where
   -- the formulas of the procedures below p were found
-  abbrev pub Gathering : List Formula → ℕ → Type 0
+  abbrev pub Gathering : List FormulaSeen → ℕ → Type 0
   Gathering fs p = prefixed (map formula_list (take p fs)) (each_formula (next_formula 64 t rs L) (range_with_len p (procedures - p))) ≡ next_round 64 rs t L
 
-  pub gathering_none : (fs : List Formula) → Gathering fs 0
+  pub gathering_none : (fs : List FormulaSeen) → Gathering fs 0
   gathering_none fs = let n : procedures - 0 ≡ procedures = omega arith in ap (λ n. prefixed [] (each_formula (next_formula 64 t rs L) (range_with_len 0 n))) n ∙ go (next_round 64 rs t L)
     where
       go : (r : Result (List (List ℕ)) ℕ) → prefixed [] r ≡ r
       go (Ok ys) = refl
       go (Err y) = refl
 
-  module _ (fs : List Formula) (p : ℕ) (h : p < procedures) (g : Gathering fs p) where
+  module _ (fs : List FormulaSeen) (p : ℕ) (h : p < procedures) (g : Gathering fs p) where
     left : procedures - p ≡ suc (procedures - (p + 1))
     left = omega arith
 
@@ -49,13 +48,13 @@ module _ (t : Table) (rs : List Entry) (L : List (List ℕ)) where
         sym g ∙ ap (λ n. prefixed (map formula_list (take p fs)) (each_formula (next_formula 64 t rs L) (range_with_len p n))) left
         ∙ each_none (next_formula 64 t rs L) p (procedures - (p + 1)) (map formula_list (take p fs)) e
 
-    pub gathering_more : (x : Formula) → p < length fs → next_formula 64 t rs L p ≡ Some (formula_list x) → Gathering (set fs p x) (p + 1)
+    pub gathering_more : (x : FormulaSeen) → p < length fs → next_formula 64 t rs L p ≡ Some (formula_list x) → Gathering (set fs p x) (p + 1)
     gathering_more x l e =
         ap (λ ys. prefixed ys (each_formula (next_formula 64 t rs L) (range_with_len (p + 1) (procedures - (p + 1))))) (ap (map formula_list) (take_more_set fs p x l) ∙ map-append formula_list (take p fs) (x ∷ []))
         ∙ sym (each_more (next_formula 64 t rs L) p (procedures - (p + 1)) (map formula_list (take p fs)) (formula_list x) e)
         ∙ ap (λ n. prefixed (map formula_list (take p fs)) (each_formula (next_formula 64 t rs L) (range_with_len p n))) (sym left) ∙ g
 
-  pub gathering_all : (fs : List Formula) (p : ℕ) → length fs ≡ procedures → procedures ≤ p → Gathering fs p → next_round 64 rs t L ≡ Ok (map formula_list fs)
+  pub gathering_all : (fs : List FormulaSeen) (p : ℕ) → length fs ≡ procedures → procedures ≤ p → Gathering fs p → next_round 64 rs t L ≡ Ok (map formula_list fs)
   gathering_all fs p n h g =
       let z : procedures - p ≡ 0 = omega arith in
       sym g ∙ ap (λ n. prefixed (map formula_list (take p fs)) (each_formula (next_formula 64 t rs L) (range_with_len p n))) z

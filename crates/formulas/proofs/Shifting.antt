@@ -11,10 +11,9 @@ use Rattle.rules.specs.Lookups.{table_join}
 use Rattle.rules.specs.Surveys.{view}
 use Rattle.rules.specs.Tables.{Table, join_of}
 use Rattle.formulas.specs.declared.fault.Overflow.{Overflow}
-use Rattle.formulas.specs.declared.formula.Formula.{Formula}
 use Rattle.formulas.specs.Steps.{bind}
 use Rattle.formulas.specs.Formulas.{impossible, offer, offers, joins, joined, both, either, shift, or_after, and_after}
-use Rattle.formulas.specs.FormulaViews.{found}
+use Rattle.formulas.specs.FormulaViews.{FormulaSeen, found}
 use Rattle.formulas.proofs.Monoids.{table_monoid}
 use Rattle.formulas.proofs.Offers.{offers_from}
 
@@ -99,10 +98,10 @@ module _ (limit : ℕ) (t : Table) (G : List ℕ) where
 
 -- ---- answers that are errors
 
-pub err_found : (r : Result Formula Overflow) → is_err r ≡ true → found r ≡ None
+pub err_found : (r : Result FormulaSeen Overflow) → is_err r ≡ true → found r ≡ None
 err_found (Ok f) e = absurd (false≢true e)
 err_found (Err x) e = refl
 
-pub err_means : (r : Result Formula Overflow) (P : Formula → Type 0) → is_err r ≡ true → IfOk r P
+pub err_means : (r : Result FormulaSeen Overflow) (P : FormulaSeen → Type 0) → is_err r ≡ true → IfOk r P
 err_means (Ok f) P e = absurd (false≢true e)
 err_means (Err x) P e = tt

@@ -1,17 +1,22 @@
 -- Formulas that the code holds, by their clauses, and what its operations answer.
-use Rattle.std.specs.Prelude.{◌≡◌, ℕ, ◌^◌, ◌<◌, Bool, ◌&&◌, ◌||◌, List, Some, None, Ok, Err, Decides, Option, Result}
+use Rattle.std.specs.Prelude.{◌≡◌, ℕ, ◌^◌, ◌<◌, Bool, ◌&&◌, ◌||◌, List, Some, None, Ok, Err, Decides, Option, Result, ◌≤◌, length}
 use Rattle.foundation.specs.Bits.{has}
 use Rattle.rules.specs.Tables.{Table}
+use Rattle.formulas.specs.declared.clauses.Clauses.{Clauses}
 use Rattle.formulas.specs.declared.fault.Overflow.{Overflow}
-use Rattle.formulas.specs.declared.formula.Formula.{Formula}
 use Rattle.formulas.specs.Clauses.{clause_list}
 use Rattle.formulas.specs.Formulas.{meets, BelowWidth, leading, going_on}
 
-abbrev pub formula_list : Formula → List ℕ
+-- a formula as clauses see it
+pub record FormulaSeen : Type 0 where
+  pub clauses : Clauses
+  pub some : 1 ≤ length (clause_list clauses)
+
+abbrev pub formula_list : FormulaSeen → List ℕ
 formula_list f = clause_list f.clauses
 
 -- the formula, or None where a clause too many would have stood
-abbrev pub found : Result Formula Overflow → Option (List ℕ)
+abbrev pub found : Result FormulaSeen Overflow → Option (List ℕ)
 found (Ok f) = Some (formula_list f)
 found (Err e) = None
 

@@ -4,6 +4,7 @@ ghost use Rattle.formulas.specs.Clauses.{clause_list};
 
 use crate::clauses::Clauses;
 use std::alloc::AllocError;
+use std::marker::Model;
 
 mod operations;
 mod shifting;
@@ -13,6 +14,18 @@ mod shifting;
 pub struct Formula {
     clauses: Clauses,
     ghost some: { 1 ≤ length (clause_list clauses) },
+}
+
+// The model has the fields as they are. Without one a `?`, or another generic call, gets no proof in a crate
+// above, as at any type that holds an array of values with a model.
+impl Model for Formula {
+    ghost use Rattle.formulas.specs.FormulaViews.{FormulaSeen};
+
+    ghost Value = { FormulaSeen };
+
+    ghost view = { λ f. record { clauses = f.clauses; some = f.some } };
+
+    ghost inverse = { λ v. record { clauses = v.clauses; some = v.some } };
 }
 
 impl Clone for Formula {

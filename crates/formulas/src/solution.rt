@@ -20,6 +20,7 @@ use crate::symbol::{Procedure, Symbol};
 use crate::winning_set::{ClauseLists, each_meets};
 use foundation::effect_set::EffectSet;
 use rules::table::EffectTable;
+use std::marker::Model;
 
 /// How many rounds can be allowed.
 const MOST_ROUNDS: u32 = 1000;
@@ -29,6 +30,18 @@ const MOST_ROUNDS: u32 = 1000;
 pub struct Solution {
     round: Round,
     number: u32,
+}
+
+// The model has the fields as they are. Without one a `?`, or another generic call, gets no proof in a crate
+// above, as at any type that holds an array of values with a model.
+impl Model for Solution {
+    ghost use Rattle.formulas.specs.Solutions.{SolutionSeen};
+
+    ghost Value = { SolutionSeen };
+
+    ghost view = { λ s. record { round = s.round; number = s.number } };
+
+    ghost inverse = { λ v. record { round = v.round; number = v.number } };
 }
 
 impl Solution {

@@ -10,13 +10,13 @@ use Rattle.formulas.proofs.formula.Formula.both.Goals.{In_ok-offer_all}
 
 -- what was offered gave the result
 made : (c : goal.In_ok-offer_all) → offers 64 (formula_list c.args.self.now) (formula_list c.args.other.now) ≡ Some (clause_list c.offer_all.new.self)
-made c = ap (offers 64 (formula_list c.args.self.now)) (sym c.clauses.ensures) ∙ c.in_ok-offer_all.ensures
+made c = rw (← c.self.view_is) (ap (offers 64 (clause_list c.self.inside.clauses)) (sym c.clauses.ensures) ∙ c.in_ok-offer_all.ensures)
 
 pub invariant_of-result : goal.invariant_of-result
 invariant_of-result c =
     let F = formula_list c.args.self.now in
     let G = formula_list c.args.other.now in
-    record { some = given_some (offers 64 F G) (λ R. 1 ≤ length R) (clause_list c.offer_all.new.self) (offers_some 64 F G (omega (arith, c.args.self.now.some))) (made c) }
+    (given_some (offers 64 F G) (λ R. 1 ≤ length R) (clause_list c.offer_all.new.self) (offers_some 64 F G (omega (arith, c.args.self.now.some))) (made c), tt)
 
 pub returns : goal.returns
 returns c =

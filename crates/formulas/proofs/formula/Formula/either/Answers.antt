@@ -41,7 +41,7 @@ pub invariant_of-result : goal.invariant_of-result
 invariant_of-result c =
     let F = formula_list c.args.self.now in
     let G = formula_list c.args.other.now in
-    record { some = given_some (offers 64 [] (unions F G)) (λ R. 1 ≤ length R) (clause_list c.loop-k.clauses) (offers_some 64 [] (unions F G) (omega (arith, unions-some F G c.args.self.now.some c.args.other.now.some))) (made c) }
+    (given_some (offers 64 [] (unions F G)) (λ R. 1 ≤ length R) (clause_list c.loop-k.clauses) (offers_some 64 [] (unions F G) (omega (arith, unions-some F G c.args.self.now.some c.args.other.now.some))) (made c), tt)
 
 pub returns-in-Err-clause-value : goal.returns-in-Err-clause-value
 returns-in-Err-clause-value c =

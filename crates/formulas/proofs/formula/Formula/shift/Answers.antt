@@ -41,7 +41,7 @@ pub invariant_of-result : goal.invariant_of-result
 invariant_of-result c =
     let F = formula_list c.args.self.now in
     let Cs = map (joined (view c.args.table.now) c.args.e) F in
-    record { some = given_some (offers 64 [] Cs) (λ R. 1 ≤ length R) (clause_list c.loop-clause.clauses) (offers_some 64 [] Cs (omega (arith, length-map F (joined (view c.args.table.now) c.args.e), c.args.self.now.some))) (made c) }
+    (given_some (offers 64 [] Cs) (λ R. 1 ≤ length R) (clause_list c.loop-clause.clauses) (offers_some 64 [] Cs (omega (arith, length-map F (joined (view c.args.table.now) c.args.e), c.args.self.now.some))) (made c), tt)
 
 pub returns : goal.returns
 returns c =

@@ -58,7 +58,7 @@ made c =
 
 pub invariant_of-result : goal.invariant_of-result
 invariant_of-result c =
-    record { some = c.loop-effects.invariant.1 (omega (arith, c.loop-effects-test.false, ap length c.clauses-effects-items.ensures, c.args.self.now.some)) }
+    (c.loop-effects.invariant.1 (omega (arith, c.loop-effects-test.false, ap length c.clauses-effects-items.ensures, c.args.self.now.some)), tt)
 
 pub returns : goal.returns
 returns c =
