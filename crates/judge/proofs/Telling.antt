@@ -59,13 +59,6 @@ module _ (rs : List Entry) (L : List (List ℕ)) where
       go None h = omega (arith, ap length (append-nil (rows_below rs L n)))
       go (Some o) h = omega (arith, length-append (rows_below rs L n) (row_of L n (Some o)))
 
-  -- ---- gathered by the number of their procedures
-
-  pub telling_more : (n : ℕ) (o : Owner) (k : ℕ) (ws vs : List Row) → ws ≡ rows_below rs L n → Some o ≡ owner_of rs n → k ≡ length (formula_at L n) → vs ≡ ws ++ record { procedure = n; owner = o; clauses = k } ∷ [] → vs ≡ rows_below rs L (n + 1)
-  telling_more n o k ws vs e own few f =
-      let row : ℕ → Row = λ j. record { procedure = n; owner = o; clauses = j } in
-      rw add-one (f ∙ ap (λ (us : List Row). us ++ row k ∷ []) e ∙ ap (λ j. rows_below rs L n ++ row j ∷ []) few ∙ ap (λ v. rows_below rs L n ++ row_of L n v) own)
-
   -- ---- in words
 
   -- what a row says of its procedure holds
