@@ -46,11 +46,3 @@ shift_from_masks m mask h below =
     let b = some_bit (mask / 2 ^ m) h in
     let l = below (m + b.0) (sym (has_shr mask m b.0) ∙ b.1) in
     omega arith
-
--- what is read of the weights is a residue
-pub residue_own : (m : ℕ) (weights : List ℕ) (c : ℕ) (r : Option ℕ) → r ≡ slice_get weights c → Residues m weights (length weights) → IfSome r (λ e. e < m)
-residue_own m weights c r is below = go (cases_lt c (length weights))
-  where
-    go : (c < length weights) ⊎ (length weights ≤ c) → IfSome r (λ e. e < m)
-    go (inl h) = subst (λ o. IfSome o (λ e. e < m)) (sym (is ∙ slice_get-get_or weights c 0 h)) (below c h)
-    go (inr h) = subst (λ o. IfSome o (λ e. e < m)) (sym (is ∙ slice_get_past weights c h)) tt

@@ -8,12 +8,12 @@ use Rattle.foundation.specs.declared.bounded.Bounded.{Bounded}
 use Rattle.foundation.specs.Bounds.{items}
 use Rattle.rules.specs.Counting.{counted, Modular, Residues}
 use Rattle.rules.specs.Meaning.{Lawful}
-use Rattle.foundation.specs.Laws.Bounds.{length_items}
+use Rattle.foundation.specs.Laws.Bounds.{few_items}
 
 pub counted_lawful : (m : ℕ) (weights : Bounded ℕ 16) (mask : ℕ) → Modular m → 1 ≤ length (items weights) → Residues m (items weights) (length (items weights)) → Lawful (counted m (items weights) mask)
 counted_lawful m weights mask modular some residues = record {
   some = some;
-  few = omega (arith, length_items weights, weights.few);
+  few = few_items weights;
   own_neutral = modular.0;
   own_command = residues;
   own_join = λ a b _ _. mod_below (a + b) m modular.0;

@@ -14,9 +14,3 @@ loop-r-preserved c =
       | else-a-p-eq1 w ↦ subst (Row c.args.a c.args.b c.args.p (c.loop-r.r + 1)) (sym w.states-is)
           (row_no c.args.a c.args.b c.args.p c.loop-r.r c.loop-r.states c.loop-r.invariant w.if-a-p-eq1.false)
     ]
-
-pub returns : goal.returns
-returns c =
-    let e : c.loop-r.r ≡ 8 = omega arith in
-    let i = subst (λ n. Row c.args.a c.args.b c.args.p n c.loop-r.states) e c.loop-r.invariant in
-    record { small = i.0; bits = i.1 }

@@ -7,20 +7,6 @@ pub loop-i-init : goal.loop-i-init
 loop-i-init g c =
     walks_start (g.R.OrderRule.meaning c.args.rule.now) (g.R.OrderRule.lawful c.args.rule.now) c.args.slice.now c.neutral.result c.requires c.neutral.ensures
 
-pub extend-requires : goal.extend-requires
-extend-requires g c =
-    let m = g.R.OrderRule.meaning c.args.rule.now in
-    let law = g.R.OrderRule.lawful c.args.rule.now in
-    let old = set c.args.slice.now 0 c.neutral.result in
-    let room = room_kept c.args.slice.now c.neutral.result c.requires in
-    let r = ready m law old c.loop-i.slice c.loop-i.count _ _ room c.loop-i.invariant in
-    record {
-      few = r.few;
-      room = r.room;
-      met = r.met;
-      own = walks_own m law old c.loop-i.slice old c.loop-i.count c.loop-i.i c.index-slice-i.result _ room c.loop-i-test.true c.index-slice-i.is c.loop-i.invariant;
-    }
-
 pub returns-in_err-count : goal.returns-in_err-count
 returns-in_err-count g c =
     let m = g.R.OrderRule.meaning c.args.rule.now in

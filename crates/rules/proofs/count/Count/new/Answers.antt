@@ -2,7 +2,7 @@ use Rattle.std.proofs.Common.{rules, ◌≡◌, ◌^◌, ◌<◌, ◌≤◌, len
 use Rattle.std.proofs.lemmas.Bool.{eqb-false}
 use Rattle.std.proofs.lemmas.Option.{MatchOption-at_some}
 use Rattle.foundation.specs.Bounds.{items}
-use Rattle.foundation.specs.Laws.Bounds.{length_items}
+use Rattle.foundation.specs.Laws.Bounds.{few_items}
 use Rattle.rules.specs.Counting.{counted, Counts, Few, Masks, Residues}
 use Rattle.rules.proofs.Counts.{counts, masks_from_shift, masks_from_width, shift_from_masks}
 use Rattle.rules.proofs.count.Count.new.Goals as goal
@@ -12,7 +12,7 @@ pub returns-then-permitted-modulus-ne0 : goal.returns-then-permitted-modulus-ne0
 returns-then-permitted-modulus-ne0 c =
     let ws = c.args.weights.now in
     let is = MatchOption-at_some (16 < length ws) (λ b. items b ≡ ws) c.in_ok-kept.kept c.in_ok-kept.ensures.ok_part c.from_slice.ensures in
-    let few : Few ws = (omega (arith, eqb-false (length ws) 0 (sym c.if-is_empty.ensures)), omega (arith, ap length is, length_items c.in_ok-kept.kept, c.in_ok-kept.kept.few)) in
+    let few : Few ws = (omega (arith, eqb-false (length ws) 0 (sym c.if-is_empty.ensures)), omega (arith, ap length is, few_items c.in_ok-kept.kept)) in
     let residues : Residues c.args.modulus ws (length ws) = search rules in
     record { made = ((omega arith, omega arith), few, residues, shift_from_masks c.args.modulus c.args.permitted c.if-permitted-modulus-ne0.true) }
 
@@ -21,7 +21,7 @@ returns c =
     let m = c.args.modulus in
     let ws = c.args.weights.now in
     let is = MatchOption-at_some (16 < length ws) (λ b. items b ≡ ws) c.in_ok-kept.kept c.in_ok-kept.ensures.ok_part c.from_slice.ensures in
-    let few : Few ws = (omega (arith, eqb-false (length ws) 0 (sym c.if-is_empty.ensures)), omega (arith, ap length is, length_items c.in_ok-kept.kept, c.in_ok-kept.kept.few)) in
+    let few : Few ws = (omega (arith, eqb-false (length ws) 0 (sym c.if-is_empty.ensures)), omega (arith, ap length is, few_items c.in_ok-kept.kept)) in
     let residues : Residues m ws (length ws) = search rules in
     let masks : Masks m c.args.permitted =
     elim c.else-modulus-lt64.branch [
