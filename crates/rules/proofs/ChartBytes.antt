@@ -1,6 +1,6 @@
 -- The records of a chart, one after another.
-use Rattle.std.proofs.Common.{◌≡◌, ℕ, ◌+◌, ◌*◌, ◌<◌, ◌≤◌, List, ◌++◌, length, take, drop, get_or, sym, ap, ◌∙◌, arith, below_none, below_more}
-use Rattle.std.proofs.lemmas.List.{ext_get_or, drop_at, drop-drop, length-append, length-drop, take_at}
+use Rattle.std.proofs.Common.{◌≡◌, ℕ, ◌+◌, ◌*◌, ◌≤◌, List, ◌++◌, length, take, drop, sym, ap, ◌∙◌, arith}
+use Rattle.std.proofs.lemmas.List.{drop_at, drop-drop, length-append, length-drop, take_at}
 use Rattle.rules.specs.Automata.{record_at}
 
 -- what is left of the bytes begins with a record: it is the one of this number, and the rest is behind it

@@ -1,12 +1,10 @@
 -- A count permits a list exactly where the sum of its weights is a permitted residue.
-use Rattle.std.proofs.Common.{◌≡◌, ℕ, ◌+◌, ◌-◌, ◌/◌, ◌%◌, ◌^◌, ◌<◌, ◌≤◌, ◌⊎◌, List, [], ◌∷◌, length, get_or, IfSome, Option, sym, refl, ap, ◌∙◌, subst, inl, inr, arith}
+use Rattle.std.proofs.Common.{◌≡◌, ℕ, ◌+◌, ◌-◌, ◌/◌, ◌%◌, ◌^◌, ◌<◌, ◌≤◌, ◌⊎◌, List, [], ◌∷◌, get_or, sym, refl, ap, ◌∙◌, inl, inr, arith}
 use native.Mathlib.Nat.{add-mod-mod, zero-mod}
 use Rattle.std.proofs.lemmas.Bool.{not-false, not_from_true, cases_lt, false≢true}
-use Rattle.std.specs.List.{slice_get}
-use Rattle.std.proofs.lemmas.Option.{slice_get-get_or, slice_get_past}
 use Rattle.foundation.specs.Bits.{has}
 use Rattle.foundation.specs.Laws.Bits.{has_shr, has-zero, has_above, some_bit}
-use Rattle.rules.specs.Counting.{counted, total, Counts, Masks, Residues}
+use Rattle.rules.specs.Counting.{counted, total, Counts, Masks}
 use Rattle.rules.specs.Meaning.{effect}
 
 module _ (m : ℕ) (weights : List ℕ) (mask : ℕ) where

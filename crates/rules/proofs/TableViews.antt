@@ -1,14 +1,13 @@
 -- An effect table as the code holds it and reads it.
-use Rattle.std.proofs.Common.{◌≡◌, ℕ, ◌-◌, ◌<◌, ◌≤◌, false, ltb, List, [], map, length, get_or, take, Some, None, Ok, Err, sym, refl, ap, ◌∙◌, subst, arith}
+use Rattle.std.proofs.Common.{◌≡◌, ℕ, ◌≤◌, false, ltb, List, [], map, length, get_or, take, Some, None, Ok, Err, sym, refl, ap, ◌∙◌, subst, arith}
 use Rattle.std.proofs.lemmas.List.FromFn.{length-map-range_with_len}
-use Rattle.std.proofs.lemmas.List.{get_or-map, length-map, length-take, length-take-le, take_at}
-use Rattle.std.proofs.lemmas.Bool.{and_from, cond-false, cond-true, le-ltb, lt-ltb}
+use Rattle.std.proofs.lemmas.List.{get_or-map, length-map, take_at}
+use Rattle.std.proofs.lemmas.Bool.{cond-false, le-ltb}
 use Rattle.foundation.specs.declared.bounded.Bounded.{Bounded}
 use Rattle.foundation.specs.declared.effect_set.EffectSet.{EffectSet}
 use Rattle.rules.specs.declared.fault.EffectsFault.TheVariants.{TooMany, ShortSlice}
 use Rattle.rules.specs.Behaviours.{behaviour}
 use Rattle.foundation.specs.Bounds.{items}
-use Rattle.rules.specs.Lookups.{table_join}
 use Rattle.rules.specs.Meaning.{Meaning, Lawful, effect}
 use Rattle.rules.specs.Numbering.{Numbered, Exceeds}
 use Rattle.rules.specs.Register.{Survey, complete, overfull, entries, outcome, mapped, met_effects, met_lists, written}

@@ -1,4 +1,4 @@
-use Rattle.std.proofs.Common.{◌≡◌, ◌+◌, sym, subst, arith}
+use Rattle.std.proofs.Common.{◌+◌, sym, subst}
 use Rattle.rules.proofs.Joins.{Row, row-none, row_yes, row_no}
 use Rattle.rules.proofs.chart.row.Goals as goal
 use Rattle.rules.proofs.chart.row.Goals.{then-a-p-eq1, else-a-p-eq1}

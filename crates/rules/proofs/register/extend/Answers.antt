@@ -1,7 +1,7 @@
-use Rattle.std.proofs.Common.{take, sym, ◌∙◌, arith}
+use Rattle.std.proofs.Common.{sym, ◌∙◌}
 use Rattle.std.proofs.lemmas.Option.{MatchOption-at_some}
-use Rattle.rules.specs.Register.{Onward, row, of_effects}
-use Rattle.rules.proofs.Surveying.{onward_own, ready, rows_start, rows_more, rows_off, rows_end}
+use Rattle.rules.specs.Register.{Onward}
+use Rattle.rules.proofs.Surveying.{rows_more, rows_off}
 use Rattle.rules.proofs.register.extend.Goals as goal
 
 pub returns-in_err-met : goal.returns-in_err-met

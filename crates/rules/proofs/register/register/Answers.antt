@@ -1,6 +1,6 @@
 use Rattle.std.proofs.Common.{set, sym, ◌∙◌}
 use Rattle.rules.specs.Register.{met_effects}
-use Rattle.rules.proofs.Surveying.{ready, walks_start, walks_own, walks_more, walks_off, walks_end, past_first, room_kept}
+use Rattle.rules.proofs.Surveying.{walks_start, walks_more, walks_off, walks_end, past_first, room_kept}
 use Rattle.rules.proofs.register.register.Goals as goal
 
 pub loop-i-init : goal.loop-i-init

@@ -1,4 +1,4 @@
-use Rattle.std.proofs.Common.{rules, arith}
+use Rattle.std.proofs.Common.{rules}
 use Rattle.rules.proofs.Tabling.{met_few, met_own}
 use Rattle.rules.proofs.table.making.number_of.Goals as goal
 

@@ -1,8 +1,5 @@
-use Rattle.std.proofs.Common.{◌≡◌, length, sym, ap, subst, arith}
-use Rattle.std.proofs.lemmas.List.{length-map}
-use Rattle.foundation.specs.Bounds.{items}
-use Rattle.rules.specs.Tables.{effects_table}
-use Rattle.rules.specs.Views.{table_from, NumbersSome, Square}
+use Rattle.std.proofs.Common.{sym, ap, subst, arith}
+use Rattle.rules.specs.Views.{NumbersSome, Square}
 use Rattle.rules.proofs.Tabling.{met_few}
 use Rattle.rules.proofs.TableViews.{view_is, square, numbers_some}
 use Rattle.rules.proofs.table.making.table_of.Goals as goal
