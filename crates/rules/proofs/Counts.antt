@@ -2,6 +2,8 @@
 use Rattle.std.proofs.Common.{◌≡◌, ℕ, ◌+◌, ◌-◌, ◌/◌, ◌%◌, ◌^◌, ◌<◌, ◌≤◌, ◌⊎◌, List, [], ◌∷◌, get_or, sym, refl, ap, ◌∙◌, inl, inr, arith}
 use native.Mathlib.Nat.{add-mod-mod, zero-mod}
 use Rattle.std.proofs.lemmas.Bool.{not-false, not_from_true, cases_lt, false≢true}
+use Rattle.std.specs.List.{slice_index}
+use Rattle.std.proofs.lemmas.List.Sums.{sum_by-cons}
 use Rattle.foundation.specs.Bits.{has}
 use Rattle.foundation.specs.Laws.Bits.{has_shr, has-zero, has_above, some_bit}
 use Rattle.rules.specs.Counting.{counted, total, Counts, Masks}
@@ -10,7 +12,7 @@ use Rattle.rules.specs.Meaning.{effect}
 module _ (m : ℕ) (weights : List ℕ) (mask : ℕ) where
   sums : (w : List ℕ) → effect (counted m weights mask) w ≡ total weights w % m
   sums [] = sym (zero-mod m)
-  sums (c ∷ w) = ap (λ n. (get_or weights c 0 + n) % m) (sums w) ∙ add-mod-mod (get_or weights c 0) (total weights w) m
+  sums (c ∷ w) = ap (λ n. (get_or weights c 0 + n) % m) (sums w) ∙ add-mod-mod (get_or weights c 0) (total weights w) m ∙ ap (λ n. n % m) (sym (sum_by-cons (slice_index weights) c w))
 
   pub counts : Counts m weights mask (counted m weights mask)
   counts = record {
