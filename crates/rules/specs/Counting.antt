@@ -1,5 +1,5 @@
 -- Counts: sums of weights modulo m.
-use Rattle.std.specs.Prelude.{◌≡◌, ℕ, ◌+◌, ◌%◌, ◌<◌, ◌≤◌, true, not, ◌↔◌, List, [], ◌∷◌, length, nat_eq, slice_index, sum_by}
+use Rattle.std.specs.Prelude.{◌≡◌, ℕ, ◌+◌, ◌%◌, ◌<◌, ◌≤◌, true, not, ◌↔◌, List, length, nat_eq, slice_index, sum_by}
 use Rattle.rules.specs.declared.fault.RuleFault.{RuleFault}
 use Rattle.rules.specs.declared.fault.RuleFault.TheVariants.{ChartLength, ChartRecord, Modulus, WeightCount, Weight, Mask}
 use Rattle.foundation.specs.Bits.{has}
