@@ -47,9 +47,9 @@ Countable m weights mask = Modular m × Few weights × Residues m weights (lengt
 
 -- the first thing that is wrong with them
 abbrev pub Uncountable : ℕ → List ℕ → ℕ → RuleFault → Type 0
-Uncountable m weights mask Modulus = Modular m → ⊥
-Uncountable m weights mask WeightCount = Modular m × (Few weights → ⊥)
+Uncountable m weights mask Modulus = ¬ Modular m
+Uncountable m weights mask WeightCount = Modular m × (¬ Few weights)
 Uncountable m weights mask (Weight i) = Modular m × Few weights × (i < length weights) × (m ≤ slice_index weights i) × Residues m weights i
-Uncountable m weights mask Mask = Modular m × Few weights × Residues m weights (length weights) × (Masks m mask → ⊥)
+Uncountable m weights mask Mask = Modular m × Few weights × Residues m weights (length weights) × (¬ Masks m mask)
 Uncountable m weights mask (ChartLength whole) = ⊥
 Uncountable m weights mask (ChartRecord i) = ⊥

@@ -21,7 +21,7 @@ enum ChartRecord {
 
 impl ChartRecord {
     fn read(bytes: &[u8]) -> Option<ChartRecord>
-        ensures { MatchOption result (Formed bytes.now → ⊥) (λ x. Reads bytes.now x) }
+        ensures { MatchOption result (¬ Formed bytes.now) (Reads bytes.now) }
     {
         match bytes {
             [0, from, command, to, 255, 255, 255, 255, 255, 255, 255, 255]

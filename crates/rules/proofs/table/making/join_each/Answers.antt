@@ -1,4 +1,4 @@
-use Rattle.std.proofs.Common.{◌≡◌, true, length, is_some, sym, ap, ◌∙◌, subst, arith, length-take-le}
+use Rattle.std.proofs.Common.{◌≡◌, true, length, is_some, IsSome, sym, ap, ◌∙◌, subst, arith, length-take-le}
 use Rattle.std.proofs.lemmas.List.{length-map}
 use Rattle.std.proofs.lemmas.Grind.{common_steps}
 use Rattle.foundation.specs.Bounds.{items}
@@ -19,7 +19,7 @@ number_of-requires g c =
     record {
       all = c.requires.all;
       own = subst m.own (sym is) (listed_own m law met c.requires.all (m.join c.args.a c.b-item.result) z);
-      known = subst (λ e. is_some (place m.same 0 met e) ≡ true) (sym is) (listed-known m law met c.requires.all (m.join c.args.a c.b-item.result) z);
+      known = subst (λ e. IsSome (place m.same 0 met e)) (sym is) (listed-known m law met c.requires.all (m.join c.args.a c.b-item.result) z);
     }
 
 pub unwrap-requires : goal.unwrap-requires

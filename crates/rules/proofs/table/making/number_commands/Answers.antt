@@ -1,4 +1,4 @@
-use Rattle.std.proofs.Common.{◌≡◌, ℕ, ◌<◌, ◌∷◌, [], ◌++◌, true, map, length, is_some, OnOk, sym, ap, ◌∙◌, subst, arith}
+use Rattle.std.proofs.Common.{◌≡◌, ℕ, ◌<◌, ◌∷◌, [], ◌++◌, true, map, length, is_some, IsSome, OnOk, sym, ap, ◌∙◌, subst, arith}
 use Rattle.std.specs.List.{range_with_len}
 use Rattle.std.proofs.lemmas.List.FromFn.{length-map-range_with_len, map-range_with_len_more}
 use Rattle.foundation.specs.Bounds.{items}
@@ -15,7 +15,7 @@ number_of-requires-clause-known g c =
     let lt : i < m.commands = omega (arith, c.commands-c-end.ensures) in
     let some = c.command.ensures.some lt in
     let is : c.unwrap-effect.result ≡ m.command i = cc in
-    subst (λ e. is_some (place m.same 0 c.args.met.now e) ≡ true) (sym is) (listed-known m law c.args.met.now c.requires (m.command i) (listed_command m law c.args.met.now c.requires i lt))
+    subst (λ e. IsSome (place m.same 0 c.args.met.now e)) (sym is) (listed-known m law c.args.met.now c.requires (m.command i) (listed_command m law c.args.met.now c.requires i lt))
 
 pub unwrap-requires : goal.unwrap-requires
 unwrap-requires g c =
