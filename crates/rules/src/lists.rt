@@ -1,5 +1,5 @@
 //! One list of commands under any order rule.
-ghost use Rattle.std.specs.Prelude.{◌≡◌, Some, MatchOption};
+ghost use Rattle.std.specs.Prelude.{Some, MatchOption};
 ghost use Rattle.rules.specs.Judgements.{Judged, HasEffect, judgement_name};
 ghost use Rattle.rules.specs.Meaning.{Below};
 

@@ -1,6 +1,5 @@
 //! Making the effect table of any rule.
-ghost use Rattle.std.specs.Prelude.{◌≡◌, ◌<◌, ◌≤◌, map, length, IsSome};
-ghost use Rattle.std.specs.List.{AllByRecursion};
+ghost use Rattle.std.specs.Prelude.{◌≡◌, map, length, IsSome};
 ghost use Rattle.rules.specs.Behaviours.{behaviour};
 ghost use Rattle.foundation.specs.Bounds.{items};
 ghost use Rattle.rules.specs.Register.{place};
