@@ -50,7 +50,7 @@ decides_none P i b old never = (
 )
 
 kinds_differ : (bs : List ℕ) (p c q r : ℕ) → bs ≡ arrow_bytes p c q → bs ≡ final_bytes r → ⊥
-kinds_differ bs p c q r e f = let z : ◌≡◌ {A = ℕ} 0 1 = cc in omega arith
+kinds_differ bs p c q r e f = cc
 
 drawn_arrow : (bytes : List ℕ) (i : ℕ) (boxes : List ℕ) (finals : List Bool) (p' c' q' : ℕ) → length boxes ≡ 16 → ArrowForm (record_at bytes i) p' c' q' → Drawn bytes i boxes finals
     → Drawn bytes (i + 1) (set boxes c' (bit_or (get_or boxes c' 0) (2 ^ (8 * p' + q')))) finals

@@ -98,10 +98,10 @@ module _ {E : Type 0} (s : Scheme E) where
   -- an answer with a number comes of a completed step, and one without of an overfull register
   pub answered : (x : Survey E) (n : ℕ) → Some n ≡ outcome x → (more : List E) × (x ≡ complete more) × (n ≡ length more)
   answered (complete more) n p = (more, refl, cc)
-  answered (overfull reg e) n p = let z : ◌≡◌ {A = ℕ} 0 1 = cc in absurd (omega arith)
+  answered (overfull reg e) n p = absurd (cc)
 
   pub unanswered : (x : Survey E) → None ≡ outcome x → (reg : List E) × ((e : E) × (x ≡ overfull reg e))
-  unanswered (complete more) p = let z : ◌≡◌ {A = ℕ} 0 1 = cc in absurd (omega arith)
+  unanswered (complete more) p = absurd (cc)
   unanswered (overfull reg e) p = (reg, (e, refl))
 
   -- what has no place is written behind what is there
