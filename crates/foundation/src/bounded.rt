@@ -18,7 +18,7 @@ pub struct Bounded<T, const N: usize> {
     ghost few: { len ≤ N },
 }
 
-// Written out, since `Clone` is not derived over ghost fields. An `impl Model` as a list could not stand in:
+// Written out, since `Clone` is not derived over the ghost fields of a generic struct. A list as its model could not serve:
 // `Copy` asks such a model to give the fields back, and the cells that are not used are none of the list.
 impl<T: Copy, const N: usize> Clone for Bounded<T, N> {
     ghost is_clone = { λ x y. y ≡ x };

@@ -29,6 +29,7 @@ impl fmt::Display for Layer {
 /// A refusal as it is told outside.
 #[derive(Clone, Copy, PartialEq, Eq, Debug)]
 pub struct Refusal {
+    /// A number and no enum: it is what is told outside, and each fault says which one is its own.
     pub number: u8,
     pub layer: Layer,
     pub place: usize,

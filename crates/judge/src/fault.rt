@@ -15,6 +15,7 @@ pub enum JudgeFault {
     Solve(SolveFault),
 }
 
+// The four `From` are written out, since what a derived one gives no contract says.
 impl From<RuleFault> for JudgeFault {
     ghost from_gives = { λ f r. r ≡ Rule f };
 

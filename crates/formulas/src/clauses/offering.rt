@@ -22,7 +22,7 @@ impl Clauses {
         ensures { clause_list result ≡ c ∷ [] }
     {
         let mut sets = Bounded::empty(c);
-        let Ok(()) = sets.push(c) else { unreachable() };
+        sets.push(c).unwrap();
         Clauses { sets }
     }
 

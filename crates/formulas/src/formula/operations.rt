@@ -66,7 +66,8 @@ impl Formula {
     }
 }
 
-/// Formulas are equal exactly where they meet the same sets.
+/// Formulas are equal exactly where they meet the same sets. This is written out: a derived equality
+/// would look at unused cells, and could not promise it.
 impl PartialEq for Formula {
     ghost eq = { on formula_list (pointwise nat_eq) };
 

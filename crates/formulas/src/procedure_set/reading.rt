@@ -17,6 +17,7 @@ use foundation::bounded::Bounded;
 
 impl ProcedureSet {
     /// A procedure set from its records, 12 bytes each, back to back.
+    // No `TryFrom`: that trait has one clause without a name, and here are three promises.
     pub fn read(bytes: &[u8]) -> Result<ProcedureSet, RecordsFault>
         ensures value { viewed result ≡ read_set bytes.now }
         ensures words { Read bytes.now (viewed result) }
@@ -46,9 +47,7 @@ fn read_records(bytes: &[u8]) -> Result<Bounded<Record, MOST_RECORDS>, RecordsFa
     let mut records = Bounded::empty(Record::blank());
     for (i, piece) in bytes.chunks_exact(RECORD_LEN).enumerate() {
         let record = Record::read(piece).ok_or(RecordsFault::Form(i))?;
-        let Ok(()) = records.push(record) else {
-            unreachable()
-        };
+        records.push(record).unwrap();
     }
     Ok(records)
 }

@@ -15,6 +15,7 @@ const FILL: u8 = 255;
 
 impl Record {
     /// The record that the bytes say, or `None` where they have another form.
+    // No `TryFrom`: it would need an error type, which the one caller would throw away.
     pub(crate) fn read(bytes: &[u8]) -> Option<Record>
         ensures { option_map entry_of result ≡ entry_in bytes.now }
     {
@@ -81,9 +82,7 @@ fn read_body(bytes: &[u8]) -> Option<Bounded<Symbol, LONGEST>>
     let mut body = Bounded::empty(Symbol::Command(0));
     for byte in bytes {
         let symbol = Symbol::try_from(*byte).ok()?;
-        let Ok(()) = body.push(symbol) else {
-            unreachable()
-        };
+        body.push(symbol).unwrap();
     }
     Some(body)
 }

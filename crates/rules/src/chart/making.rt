@@ -20,6 +20,7 @@ enum ChartRecord {
 }
 
 impl ChartRecord {
+    // No `TryFrom`: it would need an error type, which the one caller would throw away.
     fn read(bytes: &[u8]) -> Option<ChartRecord>
         ensures { MatchOption result (¬ Formed bytes.now) (Reads bytes.now) }
     {
@@ -38,6 +39,7 @@ impl ChartRecord {
 
 impl Chart {
     /// A chart from its records, 12 bytes each, back to back.
+    // No `TryFrom`, so that a chart is made by `new` as a count and a pair are.
     pub fn new(bytes: &[u8]) -> Result<Chart, RuleFault>
         ensures { MatchResult result (λ x. Chartable bytes.now × Charts bytes.now (ghosts.meaning x)) (λ f. Unchartable bytes.now f) }
     {

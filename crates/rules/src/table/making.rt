@@ -89,6 +89,8 @@ fn join_all<R: OrderRule>(rule: &R, met: &[R::Effect]) -> Bounded<Row, 64>
     joins
 }
 
+/// The numbers of the effects that break the rule.
+// Winning sets have a like loop, `effects_where`. One for both would be public, and ask that its test may be called.
 fn breaking_set<R: OrderRule>(rule: &R, met: &[R::Effect]) -> EffectSet
     requires { AllMet (R.OrderRule.meaning rule.now) met.now }
     ensures { result ≡ (effects_table (R.OrderRule.meaning rule.now) met.now).breaking }

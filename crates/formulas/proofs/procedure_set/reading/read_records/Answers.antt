@@ -1,5 +1,4 @@
-use Rattle.std.proofs.Common.{◌≡◌, ◌+◌, ◌<◌, [], ◌∷◌, ◌++◌, map, length, Err, sym, ap, ◌∙◌, subst, arith}
-use mathlib.Core.Bool.{false≢true}
+use Rattle.std.proofs.Common.{◌≡◌, ◌+◌, ◌<◌, [], ◌∷◌, ◌++◌, map, length, OnOk, Err, sym, ap, ◌∙◌, subst, arith}
 use Rattle.std.specs.Iterator.Adapters.{enumerate_source, enumerate_count}
 use Rattle.std.specs.Slice.Iter.{chunks_exact_rest}
 use Rattle.std.proofs.lemmas.List.{length_push, map_push}
@@ -21,13 +20,13 @@ loop-i-init c =
       size = cc;
     }
 
-pub unreachable-requires : goal.unreachable-requires
-unreachable-requires c =
+pub unwrap-requires : goal.unwrap-requires
+unwrap-requires c =
     let before = c.loop-i.invariant in
     let step = c.in-Some.ensures.steps in
     let there = cut_there c.args.bytes.now (chunks_exact_rest (enumerate_source c.loop-i.i-iterator)) (chunks_exact_rest (enumerate_source c.next.new.self)) c.in-Some.piece.now
     (enumerate_count c.loop-i.i-iterator) before.cut step.0.1.0 (step.0.1.1 ∙ before.size) in
-    false≢true (c.in_default.ensures.room.1 (omega (arith, before.counted, there, c.if-whole-gt-MOST_RECORDS.false)))
+    c.push.ensures.room.1 (omega (arith, before.counted, there, c.if-whole-gt-MOST_RECORDS.false))
 
 pub loop-i-preserved : goal.loop-i-preserved
 loop-i-preserved c =
@@ -41,7 +40,7 @@ loop-i-preserved c =
     let left = chunks_exact_rest (enumerate_source c.loop-i.i-iterator) in
     let next = chunks_exact_rest (enumerate_source c.next.new.self) in
     let long : length c.in-Some.piece.now ≡ 12 = step.0.1.1 ∙ before.size in
-    let e : new ≡ old ++ r ∷ [] = c.in-Ok.ensures.ok in
+    let e : new ≡ old ++ r ∷ [] = subst (λ x. OnOk x (new ≡ old ++ r ∷ [])) c.unwrap.ensures c.push.ensures.ok in
     record {
       formed = subst (Forming bytes _) (sym step.2)
           (forming_more bytes (map entry_of old) i before.formed left next c.in-Some.piece.now before.cut step.0.1.0 long (map entry_of new) (entry_of r)

@@ -1,4 +1,4 @@
-use Rattle.std.proofs.Common.{◌≡◌, ◌+◌, [], ◌∷◌, ◌++◌, length, sym, ap, ◌∙◌, subst}
+use Rattle.std.proofs.Common.{◌≡◌, ◌+◌, [], ◌∷◌, ◌++◌, length, OnOk, sym, ap, ◌∙◌, subst}
 use Rattle.std.specs.Option.{option_map}
 use Rattle.std.proofs.lemmas.List.{length_push}
 use Rattle.foundation.specs.Bounds.{items}
@@ -17,7 +17,7 @@ loop-byte-preserved c =
     let next = items c.push.new.self in
     let s = c.in_ok-symbol.symbol in
     let inv = c.loop-byte.invariant in
-    let e : next ≡ body ++ s ∷ [] = c.in-Ok.ensures.ok in (
+    let e : next ≡ body ++ s ∷ [] = subst (λ r. OnOk r (next ≡ body ++ s ∷ [])) c.unwrap.ensures c.push.ensures.ok in (
       reading_more bytes body next c.loop-byte.byte-index s c.loop-byte-test.true (c.in_ok-symbol.ensures.value ∙ c.try_from.ensures) e inv.0,
       ap length e ∙ length_push body s ∙ ap (λ n. n + 1) inv.1,
     )
