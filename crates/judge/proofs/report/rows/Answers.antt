@@ -1,5 +1,4 @@
 use Rattle.std.proofs.Common.{◌≡◌, length, ap, ◌∙◌, arith}
-use Rattle.foundation.specs.Bounds.{items}
 use Rattle.formulas.specs.Records.{entries}
 use Rattle.formulas.specs.Rounds.{procedures}
 use Rattle.formulas.specs.Solutions.{settled_of}
