@@ -1,6 +1,6 @@
 -- Searches for the first of a list that fails a test: by std's words, and what was found.
 use Rattle.std.proofs.Common.{◌≡◌, ℕ, zero, suc, ◌+◌, ◌<◌, Bool, true, false, not, cond, ◌&&◌, List, [], ◌∷◌, map, Some, None, Option, refl, ap, ◌∙◌, subst, arith}
-use Rattle.std.specs.List.{slice_get, list_all, position, list_all}
+use Rattle.std.specs.List.{slice_get, list_all, position}
 use Rattle.std.proofs.lemmas.Iterator.Adapters.{position_from-zero}
 use Rattle.std.proofs.lemmas.Bool.{and_from, and_parts, cond-true, cond-false}
 use Rattle.formulas.specs.Searches.{first_bad}

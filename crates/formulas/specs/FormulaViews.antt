@@ -7,7 +7,7 @@ use Rattle.formulas.specs.declared.fault.Overflow.{Overflow}
 use Rattle.formulas.specs.Clauses.{clause_list}
 use Rattle.formulas.specs.Formulas.{meets, BelowWidth, leading, going_on}
 
--- a formula as clauses see it
+-- a formula as contracts see it
 pub record FormulaSeen : Type 0 where
   pub clauses : Clauses
   pub some : 1 ≤ length (clause_list clauses)

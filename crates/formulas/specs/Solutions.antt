@@ -6,7 +6,7 @@ use Rattle.formulas.specs.declared.round.Round.{Round}
 use Rattle.formulas.specs.RoundViews.{formulas_of}
 use Rattle.formulas.specs.Solving.{Settled}
 
--- a solution as clauses see it
+-- a solution as contracts see it
 pub record SolutionSeen : Type 0 where
   pub round : Round
   pub number : ℕ

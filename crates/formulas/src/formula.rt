@@ -1,9 +1,8 @@
 //! Formulas: which sets of effects the field can force, by choices of both sides.
-ghost use Rattle.std.specs.Prelude.{◌≡◌, ◌≤◌, length, ⊤};
+ghost use Rattle.std.specs.Prelude.{◌≡◌, ◌≤◌, length};
 ghost use Rattle.formulas.specs.Clauses.{clause_list};
 
 use crate::clauses::Clauses;
-use std::alloc::AllocError;
 use std::marker::Model;
 
 mod operations;
@@ -11,6 +10,7 @@ mod shifting;
 
 /// 1 to 64 clauses, none within another, in rising order. Each clause is a choice of the station, each
 /// effect in it one of the field.
+#[derive(Clone, Copy)]
 pub struct Formula {
     clauses: Clauses,
     ghost some: { 1 ≤ length (clause_list clauses) },
@@ -27,15 +27,3 @@ impl Model for Formula {
 
     ghost inverse = { λ v. record { clauses = v.clauses; some = v.some } };
 }
-
-impl Clone for Formula {
-    ghost is_clone = { λ x y. y ≡ x };
-
-    ghost is_infallible = { λ _. ⊤ };
-
-    fn clone(&self) -> Result<Formula, AllocError> {
-        Ok(*self)
-    }
-}
-
-impl Copy for Formula {}

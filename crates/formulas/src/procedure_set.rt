@@ -11,6 +11,7 @@ use foundation::bounded::Bounded;
 mod lookup;
 mod reading;
 
+/// How many records a set has at most.
 const MOST_RECORDS: usize = 128;
 
 /// 1 to 128 records. Those of one procedure name one owner, and every procedure that a body names

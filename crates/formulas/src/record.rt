@@ -15,7 +15,8 @@ pub(crate) const RECORD_LEN: usize = 12;
 /// How many symbols a body has at most.
 const LONGEST: usize = 9;
 
-/// One body of a procedure, with the procedure's owner.
+/// One body of a procedure, with the procedure's owner. Clauses see it through `entry_of`: an `impl Model`
+/// of a `Copy` type would have to give the fields back, and the unused cells of the body are not in an entry.
 #[derive(Clone, Copy)]
 pub struct Record {
     procedure: Procedure,

@@ -1,5 +1,5 @@
 -- The survey of a rule's effects is the survey of its lists of commands, effect by effect.
-use Rattle.std.proofs.Common.{◌≡◌, ℕ, zero, suc, ◌+◌, ◌<◌, ◌≤◌, Bool, true, false, cond, ltb, List, [], ◌∷◌, ◌++◌, map, length, get_or, Some, None, Option, sym, refl, ap, ◌∙◌, subst, ap₂, arith}
+use Rattle.std.proofs.Common.{unwrap_or, ◌≡◌, ℕ, zero, suc, ◌+◌, ◌<◌, ◌≤◌, Bool, true, false, cond, ltb, List, [], ◌∷◌, ◌++◌, map, length, get_or, Some, None, Option, sym, refl, ap, ◌∙◌, subst, ap₂, arith}
 use Rattle.std.specs.List.{AllByRecursion, range_with_len}
 use Rattle.std.proofs.ByRecursion.{All-get_or, All-push, All-append}
 use Rattle.std.proofs.lemmas.List.{get_or-map, length-map, map_push}
@@ -8,7 +8,7 @@ use Rattle.rules.specs.Behaviours.{behaviour, LawfulBehaviour}
 use Rattle.foundation.specs.Bits.{number}
 use Rattle.rules.specs.Meaning.{Meaning, Lawful, Below, effect}
 use Rattle.rules.specs.Register.{Scheme, Survey, complete, overfull, entries, then_on, mapped, place, entered_at, entered, row, walk, of_effects, of_lists, met_effects, met_lists}
-use Rattle.rules.specs.Tables.{numbered, found, join_row, breaking_set, effects_table, lists_table}
+use Rattle.rules.specs.Tables.{numbered, join_row, breaking_set, effects_table, lists_table}
 use Rattle.foundation.specs.Laws.Bits.{number_ext}
 use Rattle.rules.proofs.Effects.{effect_own, effect-append, effect_push}
 use Rattle.rules.proofs.Registering.{row_grows}
@@ -113,7 +113,7 @@ module _ {E : Type 0} (m : Meaning E) (law : Lawful m) where
 
   module _ (ws : List (List ℕ)) (own : AllByRecursion (Below m.commands) ws) where
     numbered_image : (w : List ℕ) → numbered m.same (map (effect m) ws) (effect m w) ≡ numbered (behaviour m).same ws w
-    numbered_image w = ap found (place_map (effect m) m.same 0 ws w)
+    numbered_image w = ap (λ o. unwrap_or o 0) (place_map (effect m) m.same 0 ws w)
 
     row_is : (u : List ℕ) → Below m.commands u → join_row m.same m.join (map (effect m) ws) (effect m u) ≡ join_row (behaviour m).same ◌++◌ ws u
     row_is u o =

@@ -1,20 +1,19 @@
 -- A chart drawn from records permits exactly what their automaton accepts.
-use Rattle.std.proofs.Common.{◌≡◌, ℕ, ◌+◌, ◌*◌, ◌/◌, ◌%◌, ◌^◌, ◌<◌, Bool, true, false, ◌&&◌, ◌||◌, eqb, ◌⊎◌, ◌↔◌, List, [], ◌∷◌, length, get_or, set, MatchBool, Decides, sym, refl, ap, ◌∙◌, subst, inl, inr, ⊎_elim, zero-add, arith}
+use Rattle.std.proofs.Common.{◌≡◌, ℕ, ◌+◌, ◌*◌, ◌/◌, ◌%◌, ◌^◌, ◌<◌, Bool, true, false, ◌&&◌, ◌||◌, eqb, ◌⊎◌, ◌↔◌, List, [], ◌∷◌, length, get_or, set, MatchBool, Decides, sym, refl, ap, ◌∙◌, subst, inl, inr, ⊎_elim, arith}
 use lib.Bits.{bit_and, bit_or}
 use Rattle.std.proofs.lemmas.Nat.{or_lt, mod_below, pow_pos}
 use Rattle.std.proofs.lemmas.List.{get_or-set_same, get_or-set_other, length-set}
-use Rattle.std.proofs.lemmas.Bool.{eqb-true, eq-eqb, and_parts, and_from, or_cases, or_left, or_right, cases_eq, cases_lt, not-true, not-false, not_from_true, or_from, and_right, ne_eqb}
+use Rattle.std.proofs.lemmas.Bool.{eqb-true, eq-eqb, and_parts, and_from, or_cases, or_left, or_right, cases_eq, cases_lt, not-true, not-false, not_from_true}
 use Rattle.std.proofs.lemmas.Bool.Decides.{Decides-eqb, Decides-at, Decides-like, Decides-not, not_from_Decides}
 use Rattle.std.specs.List.{AllWithin, HoldsAt, enumerate_from}
 use Rattle.std.proofs.lemmas.List.FromFn.{length-enumerate_from, get_or-enumerate_from}
 use Rattle.rules.specs.declared.chart.making.ChartRecord.{ChartRecord}
 use Rattle.rules.specs.declared.chart.making.ChartRecord.TheVariants.{Arrow as arrow, Final as final}
 use Rattle.rules.specs.Automata.{record_at, arrow_bytes, final_bytes, ArrowForm, FinalForm, Formed, Arrow, Final, Leads, Accepts, LeadAlike}
-use Rattle.foundation.specs.Bits.{has, some_below}
 use Rattle.rules.specs.Boxes.{pairs, through, composed, identity, accepting, charted, Drawn, Charts}
 use Rattle.rules.specs.ChartRecords.{Reads, drawn_boxes, drawn_finals}
 use Rattle.rules.specs.Meaning.{Below, effect}
-use Rattle.foundation.specs.Laws.Bits.{same_tests, has-or, has_pow, some_is, some_more, bit_test}
+use Rattle.foundation.specs.Laws.Bits.{same_tests, has-or, has_pow, some_is, bit_test}
 use Rattle.rules.specs.Laws.Boxes.{between, pairs-composed, pairs-identity, box_ext, charted_lawful}
 use Rattle.rules.proofs.Effects.{effect_own}
 
@@ -51,7 +50,7 @@ decides_none P i b old never = (
 )
 
 kinds_differ : (bs : List ℕ) (p c q r : ℕ) → bs ≡ arrow_bytes p c q → bs ≡ final_bytes r → ⊥
-kinds_differ bs p c q r e f = let z : ◌≡◌ {A = ℕ} 0 1 = cc in omega arith
+kinds_differ bs p c q r e f = cc
 
 drawn_arrow : (bytes : List ℕ) (i : ℕ) (boxes : List ℕ) (finals : List Bool) (p' c' q' : ℕ) → length boxes ≡ 16 → ArrowForm (record_at bytes i) p' c' q' → Drawn bytes i boxes finals
     → Drawn bytes (i + 1) (set boxes c' (bit_or (get_or boxes c' 0) (2 ^ (8 * p' + q')))) finals

@@ -1,18 +1,18 @@
 -- A count permits a list exactly where the sum of its weights is a permitted residue.
-use Rattle.std.proofs.Common.{◌≡◌, ℕ, ◌+◌, ◌-◌, ◌/◌, ◌%◌, ◌^◌, ◌<◌, ◌≤◌, ◌⊎◌, List, [], ◌∷◌, length, get_or, IfSome, Option, sym, refl, ap, ◌∙◌, subst, inl, inr, arith}
+use Rattle.std.proofs.Common.{◌≡◌, ℕ, ◌+◌, ◌-◌, ◌/◌, ◌%◌, ◌^◌, ◌<◌, ◌≤◌, ◌⊎◌, List, [], ◌∷◌, get_or, sym, refl, ap, ◌∙◌, inl, inr, arith}
 use native.Mathlib.Nat.{add-mod-mod, zero-mod}
 use Rattle.std.proofs.lemmas.Bool.{not-false, not_from_true, cases_lt, false≢true}
-use Rattle.std.specs.List.{slice_get}
-use Rattle.std.proofs.lemmas.Option.{slice_get-get_or, slice_get_past}
+use Rattle.std.specs.List.{slice_index}
+use Rattle.std.proofs.lemmas.List.Sums.{sum_by-cons}
 use Rattle.foundation.specs.Bits.{has}
 use Rattle.foundation.specs.Laws.Bits.{has_shr, has-zero, has_above, some_bit}
-use Rattle.rules.specs.Counting.{counted, total, Counts, Masks, Residues}
+use Rattle.rules.specs.Counting.{counted, total, Counts, Masks}
 use Rattle.rules.specs.Meaning.{effect}
 
 module _ (m : ℕ) (weights : List ℕ) (mask : ℕ) where
   sums : (w : List ℕ) → effect (counted m weights mask) w ≡ total weights w % m
   sums [] = sym (zero-mod m)
-  sums (c ∷ w) = ap (λ n. (get_or weights c 0 + n) % m) (sums w) ∙ add-mod-mod (get_or weights c 0) (total weights w) m
+  sums (c ∷ w) = ap (λ n. (get_or weights c 0 + n) % m) (sums w) ∙ add-mod-mod (get_or weights c 0) (total weights w) m ∙ ap (λ n. n % m) (sym (sum_by-cons (slice_index weights) c w))
 
   pub counts : Counts m weights mask (counted m weights mask)
   counts = record {
@@ -46,11 +46,3 @@ shift_from_masks m mask h below =
     let b = some_bit (mask / 2 ^ m) h in
     let l = below (m + b.0) (sym (has_shr mask m b.0) ∙ b.1) in
     omega arith
-
--- what is read of the weights is a residue
-pub residue_own : (m : ℕ) (weights : List ℕ) (c : ℕ) (r : Option ℕ) → r ≡ slice_get weights c → Residues m weights (length weights) → IfSome r (λ e. e < m)
-residue_own m weights c r is below = go (cases_lt c (length weights))
-  where
-    go : (c < length weights) ⊎ (length weights ≤ c) → IfSome r (λ e. e < m)
-    go (inl h) = subst (λ o. IfSome o (λ e. e < m)) (sym (is ∙ slice_get-get_or weights c 0 h)) (below c h)
-    go (inr h) = subst (λ o. IfSome o (λ e. e < m)) (sym (is ∙ slice_get_past weights c h)) tt

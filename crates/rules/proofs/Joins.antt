@@ -1,58 +1,72 @@
--- The loops that join two boxes, row by row.
-use Rattle.std.proofs.Common.{◌≡◌, ℕ, ◌+◌, ◌*◌, ◌/◌, ◌%◌, ◌^◌, ◌<◌, ◌≤◌, Bool, true, false, ◌&&◌, ◌||◌, List, [], ◌∷◌, ◌++◌, length, get_or, sym, refl, ap, ◌∙◌, subst, zero-add, arith}
+-- The boxes of two lists joined, row by row.
+use Rattle.std.proofs.Common.{◌≡◌, ℕ, zero, suc, ◌+◌, ◌*◌, ◌/◌, ◌%◌, ◌^◌, ◌<◌, ◌≤◌, Bool, true, false, cond, ◌&&◌, ◌||◌, List, [], ◌∷◌, ◌++◌, length, get_or, filter, Option, sym, refl, ap, ◌∙◌, subst, ap₂, ⊎_elim, zero-add, arith}
 use lib.Bits.{bit_and, bit_or, mask_lt, or_shifted_r}
+use denote.Param.Members.{Mut}
+use Rattle.std.specs.Fn.{Called}
+use Rattle.std.specs.Iterator.{Drains}
+use Rattle.std.specs.List.{FoldsTo, list_any, range_with_len}
+use Rattle.std.proofs.lemmas.Fn.{fold_over}
+use Rattle.std.proofs.lemmas.Iterator.{YieldsList}
+use Rattle.std.proofs.Math.Bool.{or-false}
 use Rattle.std.proofs.lemmas.Nat.{and_mask, or_lt, shl_whole}
-use Rattle.std.proofs.lemmas.Bool.{eq-eqb, ne_eqb, both_ways}
-use Rattle.std.specs.List.{range_with_len}
+use Rattle.std.proofs.lemmas.Bool.{false≢true, or_cases}
 use Rattle.std.proofs.lemmas.List.{get_or_append_left, get_or_push, length_push}
-use Rattle.std.proofs.lemmas.List.FromFn.{get_or-range_with_len}
+use Rattle.std.proofs.lemmas.List.Folds.{list_any-append, list_any_at}
+use Rattle.std.proofs.lemmas.List.FromFn.{get_or-range_with_len, length-range_with_len}
 use Rattle.foundation.specs.Bits.{has, some_below, number}
 use Rattle.rules.specs.Boxes.{pairs, through, composed}
-use Rattle.foundation.specs.Laws.Bits.{some_none, some_more, has-zero, has-or, has_shr, has_mod, number_cat, number_ext, number-has, number_lt}
+use Rattle.foundation.specs.Laws.Bits.{same_tests, some_is, has-zero, has-or, has_shr, has_mod, number_cat, number_ext, number-has, number_lt}
 
-tests_yes : (x y z s : Bool) → x ≡ s → z ≡ true → (x || y) ≡ ((z && y) || s)
-tests_yes true true true true e f = refl
-tests_yes true false true true e f = refl
-tests_yes false true true false e f = refl
-tests_yes false false true false e f = refl
-tests_yes x y false s e f = absurd (both_ways false refl f)
-tests_yes true y true false e f = absurd (both_ways false refl (sym e))
-tests_yes false y true true e f = absurd (both_ways false refl e)
+-- what a fold over a known list keeps: `fold_over` of std, with the call first, so that the rest is known where the closures are read
+pub fold_on : {S A B F C : Type 0} {steps : S → Option A → S → Type 0} {v : A → B} (g : Mut F (C × (A × Unit {0})) C) (f : F) {s : S} (all : List B) (a r : C) (J : List B → C → Type 0)
+    → (xs : List A) × (f' : F) × Drains steps s xs × FoldsTo {P = F × C} (λ p x q. Called g p.0 (p.1, (x, tt)) q.1 q.0) (f, a) xs (f', r) → YieldsList steps v s all
+    → ((ys : List B) (c : C) (x : A) (d : C) (h : F) → J ys c → Called g f (c, (x, tt)) d h → J (ys ++ v x ∷ []) d × (h ≡ f)) → J [] a → J all r
+fold_on {steps = steps} {v = v} g f {s = s} all a r J ran road step start = fold_over steps v g J f step s all a r road.runs start ran
 
-tests_no : (x y z : Bool) → z ≡ false → x ≡ ((z && y) || x)
-tests_no x y false e = refl
-tests_no x y true e = absurd (both_ways true e refl)
+-- ---- a row: the states that two boxes lead to from one
 
--- the row of p by way of the states below r
-abbrev pub Row : ℕ → ℕ → ℕ → ℕ → ℕ → Type 0
-Row a b p r states = (states < 2 ^ 8) × ((q : ℕ) → q < 8 → has states q ≡ some_below r (λ s. pairs a p s && pairs b s q))
+-- the states that b leads to from the states rs
+abbrev pub Row : ℕ → List ℕ → ℕ → Type 0
+Row b rs states = (states < 2 ^ 8) × ((q : ℕ) → q < 8 → has states q ≡ list_any (λ r. pairs b r q) rs)
 
 has_byte : (x q : ℕ) → q < 8 → has (bit_and x 255) q ≡ has x q
 has_byte x q h = ap (λ y. has y q) (and_mask x 8) ∙ has_mod x 8 q h
 
-pub row-none : (a b p : ℕ) → Row a b p 0 0
-row-none a b p = (omega arith, λ q h. has-zero q ∙ sym (some_none (λ s. pairs a p s && pairs b s q)))
+pub row-none : (b : ℕ) → Row b [] 0
+row-none b = (omega arith, λ q h. has-zero q)
 
-pub row_yes : (a b p r states : ℕ) → Row a b p r states → bit_and (a / 2 ^ (8 * p + r)) 1 ≡ 1
-    → Row a b p (r + 1) (bit_or states (bit_and (b / 2 ^ (8 * r)) 255))
-row_yes a b p r states (small, bits) t = (
-  (or_lt 8 states (bit_and (b / 2 ^ (8 * r)) 255) small (mask_lt (b / 2 ^ (8 * r)) 8)),
+pub row_more : (b : ℕ) (rs : List ℕ) (states r : ℕ) → Row b rs states → Row b (rs ++ r ∷ []) (bit_or states (bit_and (b / 2 ^ (8 * r)) 255))
+row_more b rs states r (small, bits) = (
+  or_lt 8 states (bit_and (b / 2 ^ (8 * r)) 255) small (mask_lt (b / 2 ^ (8 * r)) 8),
   (λ q h.
       has-or states (bit_and (b / 2 ^ (8 * r)) 255) q
-      ∙ ap (λ y. has states q || y) (has_byte (b / 2 ^ (8 * r)) q h ∙ has_shr b (8 * r) q)
-      ∙ tests_yes (has states q) (pairs b r q) (pairs a p r) (some_below r (λ s. pairs a p s && pairs b s q)) (bits q h)
-      (eq-eqb (a / 2 ^ (8 * p + r) % 2) 1 (sym (and_mask (a / 2 ^ (8 * p + r)) 1) ∙ t))
-      ∙ sym (some_more r (λ s. pairs a p s && pairs b s q))),
+      ∙ ap₂ ◌||◌ (bits q h) (has_byte (b / 2 ^ (8 * r)) q h ∙ has_shr b (8 * r) q ∙ sym (or-false (pairs b r q)))
+      ∙ sym (list_any-append (λ s. pairs b s q) rs (r ∷ []))),
 )
 
-pub row_no : (a b p r states : ℕ) → Row a b p r states → (bit_and (a / 2 ^ (8 * p + r)) 1 ≡ 1 → ⊥) → Row a b p (r + 1) states
-row_no a b p r states (small, bits) t = (
-  small,
-  (λ q h.
-      bits q h ∙ tests_no (some_below r (λ s. pairs a p s && pairs b s q)) (pairs b r q) (pairs a p r)
-      (ne_eqb (a / 2 ^ (8 * p + r) % 2) 1 (λ e. t (and_mask (a / 2 ^ (8 * p + r)) 1 ∙ e)))
-      ∙ sym (some_more r (λ s. pairs a p s && pairs b s q))),
-)
+any-filter : (f g : ℕ → Bool) (xs : List ℕ) → list_any f (filter g xs) ≡ list_any (λ x. g x && f x) xs
+any-filter f g [] = refl
+any-filter f g (x ∷ xs) = go (g x) (any-filter f g xs)
+  where
+    go : (t : Bool) → list_any f (filter g xs) ≡ list_any (λ y. g y && f y) xs → list_any f (cond t (x ∷ filter g xs) (filter g xs)) ≡ ((t && f x) || list_any (λ y. g y && f y) xs)
+    go true e = ap (λ t. f x || t) e
+    go false e = e
+
+any_range : (f : ℕ → Bool) (a n : ℕ) → list_any f (range_with_len a n) ≡ true → (k : ℕ) × (k < a + n) × (f k ≡ true)
+any_range f a zero e = absurd (false≢true e)
+any_range f a (suc n) e =
+    ⊎_elim (λ h. (a, omega arith, h)) (λ h. let w = any_range f (a + 1) n h in (w.0, omega (arith, w.1), w.2)) (or_cases (f a) (list_any f (range_with_len (a + 1) n)) e)
+
+any_below : (f : ℕ → Bool) (n : ℕ) → list_any f (range_with_len 0 n) ≡ some_below n f
+any_below f n = same_tests _ _ (λ e. let w = any_range f 0 n e in (some_is n f).1 (w.0, omega (arith, w.1), w.2))
+    (λ e. let w = (some_is n f).0 e in
+    list_any_at f (range_with_len 0 n) w.0 0 (omega (arith, w.1, length-range_with_len 0 n)) (ap f (get_or-range_with_len 0 n w.0 0 w.1 ∙ zero-add w.0) ∙ w.2))
+
+pub row_all : (a b p states : ℕ) → Row b (filter (pairs a p) (range_with_len 0 8)) states → (q : ℕ) → q < 8 → has states q ≡ through a b p q
+row_all a b p states row q h =
+    row.1 q h ∙ any-filter (λ r. pairs b r q) (pairs a p) (range_with_len 0 8) ∙ any_below (λ r. pairs a p r && pairs b r q) 8
+
+-- ---- the rows one after another
 
 pub rows_more : (a b p joined row : ℕ) → p < 8 → joined ≡ number (λ k. through a b (k / 8) (k % 8)) (8 * p) → row < 2 ^ 8 → ((q : ℕ) → q < 8 → has row q ≡ through a b p q)
     → bit_or joined ((row * 2 ^ (8 * p)) % 2 ^ 64) ≡ number (λ k. through a b (k / 8) (k % 8)) (8 * (p + 1))

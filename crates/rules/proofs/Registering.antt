@@ -1,5 +1,5 @@
 -- The register step by step, as the code goes.
-use Rattle.std.proofs.Common.{◌≡◌, ℕ, zero, suc, ◌+◌, ◌-◌, ◌<◌, ◌≤◌, Bool, true, false, cond, ltb, ◌⊎◌, List, [], ◌∷◌, ◌++◌, length, get_or, take, drop, set, is_some, Some, None, Option, sym, refl, ap, ◌∙◌, subst, inl, inr, add-one, arith}
+use Rattle.std.proofs.Common.{◌≡◌, ℕ, zero, suc, ◌+◌, ◌-◌, ◌<◌, ◌≤◌, Bool, true, false, cond, ltb, ◌⊎◌, List, [], ◌∷◌, ◌++◌, length, get_or, take, drop, set, is_some, Some, None, Option, sym, refl, ap, ◌∙◌, subst, inl, inr, arith}
 use Rattle.std.specs.List.{AllByRecursion}
 use Rattle.std.proofs.ByRecursion.{All-push, All-get_or}
 use Rattle.std.proofs.lemmas.List.{append_assoc, drop_all, drop_at, drop-drop, drop_more, length-append, length-drop, length_push, length-take-le, take-append-drop, take_at}
@@ -21,12 +21,6 @@ module _ {E : Type 0} (own : E → Type 0) (room : ℕ) where
 
   pub long : (old new reg : List E) (n : ℕ) → room ≤ length old → Holds own room old new reg n → length new ≡ length old
   long old new reg n r h = ap length h.is ∙ omega (arith, length-append reg (drop (length reg) old), length-drop (length reg) old, h.count, h.few)
-
-  -- a front of the slice as it stands
-  pub holds_front : (xs : List E) (n : ℕ) → n ≤ room → room ≤ length xs → AllByRecursion own (take n xs) → Holds own room xs xs (take n xs) n
-  holds_front xs n few r all =
-      let k : length (take n xs) ≡ n = length-take-le n xs (omega arith) in
-      record { count = sym k; few = few; is = sym (ap (λ j. take n xs ++ drop j xs) k ∙ take-append-drop n xs); all = all }
 
 -- writing over what was written
 pub written_on : {E : Type 0} (reg more old xs : List E) → length reg ≤ length more → xs ≡ written reg old → written more xs ≡ written more old
@@ -104,10 +98,10 @@ module _ {E : Type 0} (s : Scheme E) where
   -- an answer with a number comes of a completed step, and one without of an overfull register
   pub answered : (x : Survey E) (n : ℕ) → Some n ≡ outcome x → (more : List E) × (x ≡ complete more) × (n ≡ length more)
   answered (complete more) n p = (more, refl, cc)
-  answered (overfull reg e) n p = let z : ◌≡◌ {A = ℕ} 0 1 = cc in absurd (omega arith)
+  answered (overfull reg e) n p = absurd (cc)
 
   pub unanswered : (x : Survey E) → None ≡ outcome x → (reg : List E) × ((e : E) × (x ≡ overfull reg e))
-  unanswered (complete more) p = let z : ◌≡◌ {A = ℕ} 0 1 = cc in absurd (omega arith)
+  unanswered (complete more) p = absurd (cc)
   unanswered (overfull reg e) p = (reg, (e, refl))
 
   -- what has no place is written behind what is there
@@ -134,9 +128,6 @@ module _ {E : Type 0} (s : Scheme E) where
   row_stop C c reg full e f h p =
       let k : C - c ≡ suc (C - (c + 1)) = omega arith in
       ap (λ n. row s n c reg e) k ∙ ap (λ x. then_on x (λ r. row s (C - (c + 1)) (c + 1) r e)) p
-
-  row_end : (C c : ℕ) (reg : List E) (e : E) → C ≤ c → row s (C - c) c reg e ≡ complete reg
-  row_end C c reg e h = let k : C - c ≡ 0 = omega arith in ap (λ n. row s n c reg e) k
 
   walk_more : (i : ℕ) (reg more : List E) → i < s.room → i < length reg → row s s.commands 0 reg (get_or reg i s.first) ≡ complete more → walk s (s.room - i) i reg ≡ walk s (s.room - (i + 1)) (i + 1) more
   walk_more i reg more h l p =
@@ -232,9 +223,6 @@ module _ {E : Type 0} (s : Scheme E) where
       pub walk_off : None ≡ outcome (row s s.commands 0 at.reg (get_or at.reg i s.first)) → new ≡ written (entries (row s s.commands 0 at.reg (get_or at.reg i s.first))) xs → Answers old whole new None
       walk_off = step_off own old xs new n whole room (λ reg. walk s (s.room - i) i reg) at (row s s.commands 0 at.reg (get_or at.reg i s.first))
           grown (λ full f p. walk_stop i at.reg full f (omega (arith, at.holds.few)) here p)
-
-  pub row_done : (own : E → Type 0) (old new : List E) (n : ℕ) (whole : Survey E) (C c : ℕ) (from : E) → C ≤ c → Stands own old new n (λ reg. row s (C - c) c reg from) whole → Answers old whole new (Some n)
-  row_done own old new n whole C c from h at = stands_end own old new n (λ reg. row s (C - c) c reg from) whole at (row_end C c at.reg from h)
 
   pub walk_done : (own : E → Type 0) (old new : List E) (n i : ℕ) (whole : Survey E) → n ≤ i → Stands own old new n (λ reg. walk s (s.room - i) i reg) whole → Answers old whole new (Some n)
   walk_done own old new n i whole h at = stands_end own old new n (λ reg. walk s (s.room - i) i reg) whole at (walk_end (s.room - i) i at.reg (omega (arith, at.holds.count)))

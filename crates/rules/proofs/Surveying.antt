@@ -1,5 +1,5 @@
 -- The register's loops over a rule's effects, in the terms of the code's own calls.
-use Rattle.std.proofs.Common.{◌≡◌, ℕ, ◌+◌, ◌-◌, ◌<◌, ◌≤◌, Bool, true, false, List, [], ◌∷◌, ◌++◌, length, get_or, take, drop, set, ◌⊎◌, Some, None, Option, MatchOption, ⊎_elim, sym, refl, ap, ◌∙◌, subst, arith}
+use Rattle.std.proofs.Common.{◌≡◌, ℕ, ◌+◌, ◌-◌, ◌<◌, ◌≤◌, true, false, List, [], ◌∷◌, ◌++◌, length, get_or, take, set, ◌⊎◌, Some, None, Option, MatchOption, ⊎_elim, sym, refl, ap, ◌∙◌, subst, arith}
 use Rattle.std.specs.List.{AllByRecursion, AllWithin, HoldsAt}
 use Rattle.std.proofs.ByRecursion.{All-get_or}
 use Rattle.std.proofs.lemmas.List.{drop-set-lt, get_or_read, get_or-take, length-set}
@@ -7,7 +7,7 @@ use Rattle.std.proofs.lemmas.Bool.{both_ways, cases_order}
 use Rattle.rules.specs.Meaning.{Meaning, Lawful}
 use Rattle.rules.specs.Register.{Onward, place, Survey, entries, outcome, entered, row, walk, written, of_effects, met_effects}
 use Rattle.rules.proofs.Meetings.{Placed, placed}
-use Rattle.rules.proofs.Registering.{Stands, Answers, front, long, holds_front, row_step, row_off, row_done, walk_step, walk_off, walk_done, walk_longer}
+use Rattle.rules.proofs.Registering.{Stands, Answers, front, long, row_step, row_off, walk_step, walk_off, walk_done, walk_longer}
 
 module _ {E : Type 0} (m : Meaning E) (law : Lawful m) where
   -- ---- looking for an effect
@@ -38,12 +38,6 @@ module _ {E : Type 0} (m : Meaning E) (law : Lawful m) where
 
   -- ---- entering effects
 
-  -- what the caller of `enter` and `extend` shows
-  pub record Ready (xs : List E) (n : ℕ) : Type 0 where
-    pub few : n ≤ 64
-    pub room : 64 ≤ length xs
-    pub met : AllByRecursion m.own (take n xs)
-
   -- the loop over the commands, at the command c
   abbrev pub Rows : List E → List E → ℕ → ℕ → E → Survey E → Type 0
   Rows old new n c from whole = Stands (of_effects m) m.own old new n (λ reg. row (of_effects m) (m.commands - c) c reg from) whole
@@ -52,25 +46,8 @@ module _ {E : Type 0} (m : Meaning E) (law : Lawful m) where
   abbrev pub Walks : List E → List E → ℕ → ℕ → Survey E → Type 0
   Walks old new n i whole = Stands (of_effects m) m.own old new n (λ reg. walk (of_effects m) (64 - i) i reg) whole
 
-  pub ready : (old new : List E) (n : ℕ) (rest : List E → Survey E) (whole : Survey E) → 64 ≤ length old → Stands (of_effects m) m.own old new n rest whole → Ready new n
-  ready old new n rest whole r at = record {
-    few = at.holds.few;
-    room = omega (arith, long m.own 64 old new at.reg n r at.holds);
-    met = subst (AllByRecursion m.own) (sym (front m.own 64 old new at.reg n at.holds)) at.holds.all;
-  }
-
   pub next_own : (e : E) → m.own e → (k : ℕ) → k < m.commands → m.own (m.join e (m.command k))
   next_own e o k h = law.own_join e (m.command k) o (law.own_command k h)
-
-  pub rows_start : (xs : List E) (n : ℕ) (from : E) → Ready xs n → Rows xs xs n 0 from (row (of_effects m) m.commands 0 (take n xs) from)
-  rows_start xs n from r = record {
-    reg = take n xs;
-    holds = holds_front m.own 64 xs n r.few r.room r.met;
-    gives = let e : m.commands - 0 ≡ m.commands = omega arith in ap (λ k. row (of_effects m) k 0 (take n xs) from) e;
-  }
-
-  pub onward_own : (from : E) (c : ℕ) (to : E) → m.own from → Onward m from c to → m.own to
-  onward_own from c to o step = subst m.own (sym step.is) (next_own from o c step.known)
 
   module _ (old xs new : List E) (n c : ℕ) (from to : E) (whole : Survey E) (room : 64 ≤ length old) (own : m.own from) (step : Onward m from c to) (at : Rows old xs n c from whole) where
     same_step : entered (of_effects m) (take n xs) to ≡ entered (of_effects m) at.reg (m.join from (m.command c))
@@ -83,9 +60,6 @@ module _ {E : Type 0} (m : Meaning E) (law : Lawful m) where
     pub rows_off : None ≡ outcome (entered (of_effects m) (take n xs) to) → new ≡ written (entries (entered (of_effects m) (take n xs) to)) xs → Answers (of_effects m) old whole new None
     rows_off r w = row_off (of_effects m) m.own old xs new n whole room m.commands c from step.known (next_own from own c step.known) at
         (r ∙ ap outcome same_step) (w ∙ ap (λ x. written (entries x) xs) same_step)
-
-  pub rows_end : (old new : List E) (n c : ℕ) (from : E) (whole : Survey E) → m.commands ≤ c → Rows old new n c from whole → Answers (of_effects m) old whole new (Some n)
-  rows_end old new n c from whole h at = row_done (of_effects m) m.own old new n whole m.commands c from h at
 
   pub walks_start : (xs : List E) (v : E) → 64 ≤ length xs → v ≡ m.neutral → Walks (set xs 0 v) (set xs 0 v) 1 0 (met_effects m)
   unfolding met_effects
@@ -109,9 +83,6 @@ module _ {E : Type 0} (m : Meaning E) (law : Lawful m) where
     here =
         get_or_read xs i from (omega (arith, long m.own 64 old xs at.reg n room at.holds, at.holds.few)) is m.neutral
         ∙ sym (get_or-take n xs i m.neutral lt) ∙ ap (λ l. get_or l i m.neutral) (front m.own 64 old xs at.reg n at.holds)
-
-    pub walks_own : m.own from
-    walks_own = subst m.own (sym here) (All-get_or m.own at.reg i m.neutral (omega (arith, at.holds.count)) at.holds.all)
 
     same_row : row (of_effects m) m.commands 0 (take n xs) from ≡ row (of_effects m) m.commands 0 at.reg (get_or at.reg i m.neutral)
     same_row = ap (λ l. row (of_effects m) m.commands 0 l from) (front m.own 64 old xs at.reg n at.holds) ∙ ap (row (of_effects m) m.commands 0 at.reg) here

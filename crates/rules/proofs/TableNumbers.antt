@@ -1,5 +1,5 @@
 -- The table of a closed register numbers the rule.
-use Rattle.std.proofs.Common.{◌≡◌, ℕ, zero, suc, ◌<◌, ◌≤◌, true, ◌⊎◌, List, [], ◌∷◌, ◌++◌, map, length, get_or, drop, is_some, Some, None, Option, sym, refl, ap, ◌∙◌, subst, inl, inr, arith}
+use Rattle.std.proofs.Common.{unwrap_or, ◌≡◌, ℕ, zero, suc, ◌<◌, ◌≤◌, true, ◌⊎◌, List, [], ◌∷◌, ◌++◌, map, length, get_or, drop, is_some, IsSome, Some, None, Option, sym, refl, ap, ◌∙◌, subst, inl, inr, arith}
 use Rattle.std.specs.List.{slice_get}
 use Rattle.std.proofs.lemmas.List.FromFn.{get_or-map-range_with_len}
 use Rattle.std.proofs.ByRecursion.{All-append, All-get_or, All-push}
@@ -11,7 +11,7 @@ use Rattle.foundation.specs.Bits.{number}
 use Rattle.rules.specs.Meaning.{Meaning, Lawful, Below, effect}
 use Rattle.rules.specs.Numbering.{Numbers, Meeting, Before, Numbered, Exceeds}
 use Rattle.rules.specs.Register.{place, written}
-use Rattle.rules.specs.Tables.{found, numbered, join_row, lists_table, join_of}
+use Rattle.rules.specs.Tables.{numbered, join_row, lists_table, join_of}
 use Rattle.foundation.specs.Laws.Bits.{has-number, has_above, number_lt}
 use Rattle.rules.proofs.ByLists.{same_effect, effect_same, lawful_behaviour}
 use Rattle.rules.proofs.Meetings.{Placed, placed, Known, Closed, Overfull}
@@ -75,10 +75,10 @@ module _ (b : Behaviour) (law : LawfulBehaviour b) (reg : List (List ℕ)) (clos
       go : (p : Option ℕ) → place b.same 0 reg w ≡ p → Placed b.same [] 0 reg w p → At w
       go None e m = let k = known w o in absurd (both_ways (b.same (list k.0) w) (m k.0 k.1) k.2)
       go (Some i) e (j, (is, f)) =
-          let n : j ≡ num w = let z : j ≡ i = omega arith in z ∙ sym (ap found e) in
+          let n : j ≡ num w = let z : j ≡ i = omega arith in z ∙ sym (ap (λ o. unwrap_or o 0) e) in
           record { below = subst (λ k. k < length reg) n f.below; alike = subst (λ k. b.same (list k) w ≡ true) n f.alike }
 
-  pub known-place : (w : List ℕ) → Below C w → is_some (place b.same 0 reg w) ≡ true
+  pub known-place : (w : List ℕ) → Below C w → IsSome (place b.same 0 reg w)
   known-place w o = go (place b.same 0 reg w) (placed b.same [] 0 reg w)
     where
       go : (p : Option ℕ) → Placed b.same [] 0 reg w p → is_some p ≡ true

@@ -1,14 +1,13 @@
--- An effect table as the code holds it and reads it.
-use Rattle.std.proofs.Common.{◌≡◌, ℕ, ◌-◌, ◌<◌, ◌≤◌, false, ltb, List, [], map, length, get_or, take, Some, None, Ok, Err, sym, refl, ap, ◌∙◌, subst, arith}
+-- An effect table as the code makes and holds it.
+use Rattle.std.proofs.Common.{◌≡◌, ℕ, ◌≤◌, false, ltb, List, [], map, length, get_or, take, Some, None, Ok, Err, sym, refl, ap, ◌∙◌, subst, arith}
 use Rattle.std.proofs.lemmas.List.FromFn.{length-map-range_with_len}
-use Rattle.std.proofs.lemmas.List.{get_or-map, length-map, length-take, length-take-le, take_at}
-use Rattle.std.proofs.lemmas.Bool.{and_from, cond-false, cond-true, le-ltb, lt-ltb}
+use Rattle.std.proofs.lemmas.List.{get_or-map, length-map, take_at}
+use Rattle.std.proofs.lemmas.Bool.{cond-false, le-ltb}
 use Rattle.foundation.specs.declared.bounded.Bounded.{Bounded}
 use Rattle.foundation.specs.declared.effect_set.EffectSet.{EffectSet}
 use Rattle.rules.specs.declared.fault.EffectsFault.TheVariants.{TooMany, ShortSlice}
 use Rattle.rules.specs.Behaviours.{behaviour}
 use Rattle.foundation.specs.Bounds.{items}
-use Rattle.rules.specs.Lookups.{table_join}
 use Rattle.rules.specs.Meaning.{Meaning, Lawful, effect}
 use Rattle.rules.specs.Numbering.{Numbered, Exceeds}
 use Rattle.rules.specs.Register.{Survey, complete, overfull, entries, outcome, mapped, met_effects, met_lists, written}
@@ -19,8 +18,6 @@ use Rattle.rules.proofs.ByLists.{lawful_behaviour, met_by_lists, table_by_lists}
 use Rattle.rules.proofs.Meetings.{Closed, Ends, Overfull, meets}
 use Rattle.rules.proofs.TableNumbers.{numbers, slice_numbered, slice_exceeds}
 use Rattle.rules.proofs.Tabling.{closed_lists}
-
--- ---- making
 
 pub view_is : {E : Type 0} (m : Meaning E) (met : List E) (ns : Bounded ℕ 16) (joins : Bounded (Bounded ℕ 64) 64) (s : EffectSet)
     → items ns ≡ (effects_table m met).numbers → map items (items joins) ≡ (effects_table m met).joins → s ≡ (effects_table m met).breaking
@@ -47,10 +44,10 @@ module _ {E : Type 0} (m : Meaning E) (law : Lawful m) (met : List E) (all : All
 
 complete_from : {A B : Type 0} (f : A → B) (x : Survey A) (n : ℕ) → Some n ≡ outcome (mapped f x) → (ws : List A) × ((x ≡ complete ws) × (n ≡ length ws))
 complete_from f (complete ws) n p = (ws, (refl, (let z : n ≡ length (map f ws) = cc in z ∙ length-map ws f)))
-complete_from f (overfull ws w) n p = let z : ◌≡◌ {A = ℕ} 0 1 = cc in absurd (omega arith)
+complete_from f (overfull ws w) n p = absurd (cc)
 
 overfull_from : {A B : Type 0} (f : A → B) (x : Survey A) → None ≡ outcome (mapped f x) → (ws : List A) × ((w : A) × (x ≡ overfull ws w))
-overfull_from f (complete ws) p = let z : ◌≡◌ {A = ℕ} 0 1 = cc in absurd (omega arith)
+overfull_from f (complete ws) p = absurd (cc)
 overfull_from f (overfull ws w) p = (ws, (w, refl))
 
 -- what holds of a slice whose first n entries are all effects, and of the table that is made of them

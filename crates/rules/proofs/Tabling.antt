@@ -1,9 +1,9 @@
 -- The parts of an effect table, filled from all effects that were met.
-use Rattle.std.proofs.Common.{◌≡◌, ℕ, ◌+◌, ◌*◌, ◌^◌, ◌<◌, ◌≤◌, Bool, true, false, cond, ltb, List, [], ◌∷◌, ◌++◌, map, length, get_or, take, set, is_some, Some, None, Option, sym, refl, ap, ◌∙◌, subst, ap₂, add-one, arith}
+use Rattle.std.proofs.Common.{◌≡◌, ℕ, ◌+◌, ◌*◌, ◌^◌, ◌<◌, ◌≤◌, Bool, true, false, cond, ltb, List, [], ◌∷◌, ◌++◌, length, get_or, is_some, IsSome, Some, None, Option, sym, refl, ap, ◌∙◌, subst, ap₂, add-one, arith}
 use lib.Bits.{bit_or, or_shifted_r}
 use Rattle.std.specs.List.{AllByRecursion}
 use Rattle.std.proofs.ByRecursion.{All-append, All-get_or, All-map, All-weaker}
-use Rattle.std.proofs.lemmas.List.{get_or-map, get_or_read, length-map, map_more, map_push, take_more_set}
+use Rattle.std.proofs.lemmas.List.{get_or-map, get_or_read, length-map}
 use Rattle.std.proofs.lemmas.Bool.{both_ways, cond-true, lt-ltb}
 use Rattle.rules.specs.Behaviours.{behaviour}
 use Rattle.foundation.specs.Bits.{number}
@@ -33,7 +33,7 @@ module _ {E : Type 0} (m : Meaning E) (law : Lawful m) (met : List E) (all : All
   pub met_own : AllByRecursion m.own met
   met_own = subst (AllByRecursion m.own) (sym all.effects) (All-map m.own (effect m) all.lists (All-weaker (Below m.commands) (λ w. m.own (effect m w)) (effect_own m law) all.lists closed.own))
 
-  pub met_known : (w : List ℕ) → Below m.commands w → is_some (place m.same 0 met (effect m w)) ≡ true
+  pub met_known : (w : List ℕ) → Below m.commands w → IsSome (place m.same 0 met (effect m w))
   met_known w o =
       ap (λ l. is_some (place m.same 0 l (effect m w))) all.effects ∙ ap is_some (place_map (effect m) m.same 0 all.lists w)
       ∙ known-place (behaviour m) (lawful_behaviour m law) all.lists closed w o
@@ -56,7 +56,7 @@ module _ {E : Type 0} (m : Meaning E) (law : Lawful m) (met : List E) (all : All
   pub listed_read : (i : ℕ) (e : E) → i < length met → e ≡ get_or met i e → Listed e
   listed_read i e h is = subst Listed (sym (get_or_read met i e h is m.neutral)) (listed_at i h)
 
-  pub listed_found : (e : E) → m.own e → is_some (place m.same 0 met e) ≡ true → Listed e
+  pub listed_found : (e : E) → m.own e → IsSome (place m.same 0 met e) → Listed e
   listed_found e o t = go (place m.same 0 met e) (placed m.same m.neutral 0 met e) t
     where
       go : (p : Option ℕ) → Placed m.same m.neutral 0 met e p → is_some p ≡ true → Listed e
@@ -67,8 +67,8 @@ module _ {E : Type 0} (m : Meaning E) (law : Lawful m) (met : List E) (all : All
   pub listed_own : (e : E) → Listed e → m.own e
   listed_own e l = subst m.own (sym l.is) (effect_own m law l.list l.below)
 
-  pub listed-known : (e : E) → Listed e → is_some (place m.same 0 met e) ≡ true
-  listed-known e l = subst (λ x. is_some (place m.same 0 met x) ≡ true) (sym l.is) (met_known l.list l.below)
+  pub listed-known : (e : E) → Listed e → IsSome (place m.same 0 met e)
+  listed-known e l = subst (λ x. IsSome (place m.same 0 met x)) (sym l.is) (met_known l.list l.below)
 
   pub listed_command : (c : ℕ) → c < m.commands → Listed (m.command c)
   listed_command c h = record { list = c ∷ []; below = (h, tt); is = sym (law.right (m.command c) (law.own_command c h)) }

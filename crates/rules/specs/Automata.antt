@@ -37,8 +37,8 @@ Chartable bytes = Whole bytes × ((i : ℕ) → i < length bytes / 12 → Formed
 
 -- the first thing that is wrong with them
 abbrev pub Unchartable : List ℕ → RuleFault → Type 0
-Unchartable bytes (ChartLength n) = (Whole bytes → ⊥) × (n ≡ length bytes / 12)
-Unchartable bytes (ChartRecord n) = Whole bytes × (n < length bytes / 12) × (Formed (record_at bytes n) → ⊥) × ((i : ℕ) → i < n → Formed (record_at bytes i))
+Unchartable bytes (ChartLength n) = (¬ Whole bytes) × (n ≡ length bytes / 12)
+Unchartable bytes (ChartRecord n) = Whole bytes × (n < length bytes / 12) × (¬ Formed (record_at bytes n)) × ((i : ℕ) → i < n → Formed (record_at bytes i))
 Unchartable bytes Modulus = ⊥
 Unchartable bytes WeightCount = ⊥
 Unchartable bytes (Weight i) = ⊥

@@ -44,4 +44,4 @@ pub record Charts (bytes : List ℕ) (x : Meaning ℕ) : Type 0 where
   pub boxes : (w : List ℕ) → Below 16 w → (p q : ℕ) → p < 8 → q < 8 → Decides (pairs (effect x w) p q) (Leads bytes p w q)
   pub alike : (u v : List ℕ) → Below 16 u → Below 16 v → (effect x u ≡ effect x v) ↔ LeadAlike bytes u v
   pub permits : (w : List ℕ) → Permitted x w ↔ Accepts bytes w
-  pub forbids : (w : List ℕ) → Forbidden x w ↔ (Below 16 w × (Accepts bytes w → ⊥))
+  pub forbids : (w : List ℕ) → Forbidden x w ↔ (Below 16 w × (¬ Accepts bytes w))

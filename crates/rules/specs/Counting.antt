@@ -1,5 +1,5 @@
 -- Counts: sums of weights modulo m.
-use Rattle.std.specs.Prelude.{◌≡◌, ℕ, ◌+◌, ◌%◌, ◌<◌, ◌≤◌, true, not, ◌↔◌, List, [], ◌∷◌, length, nat_eq, slice_index}
+use Rattle.std.specs.Prelude.{◌≡◌, ℕ, ◌+◌, ◌%◌, ◌<◌, ◌≤◌, true, not, ◌↔◌, List, length, nat_eq, slice_index, sum_by}
 use Rattle.rules.specs.declared.fault.RuleFault.{RuleFault}
 use Rattle.rules.specs.declared.fault.RuleFault.TheVariants.{ChartLength, ChartRecord, Modulus, WeightCount, Weight, Mask}
 use Rattle.foundation.specs.Bits.{has}
@@ -18,8 +18,7 @@ counted m weights mask = record {
 
 -- the sum of the weights of a list's commands
 abbrev pub total : List ℕ → List ℕ → ℕ
-total weights [] = 0
-total weights (c ∷ w) = slice_index weights c + total weights w
+total weights w = sum_by (slice_index weights) w
 
 -- x is the count with this modulus, these weights and this mask of permitted residues
 pub record Counts (m : ℕ) (weights : List ℕ) (mask : ℕ) (x : Meaning ℕ) : Type 0 where
@@ -48,9 +47,9 @@ Countable m weights mask = Modular m × Few weights × Residues m weights (lengt
 
 -- the first thing that is wrong with them
 abbrev pub Uncountable : ℕ → List ℕ → ℕ → RuleFault → Type 0
-Uncountable m weights mask Modulus = Modular m → ⊥
-Uncountable m weights mask WeightCount = Modular m × (Few weights → ⊥)
+Uncountable m weights mask Modulus = ¬ Modular m
+Uncountable m weights mask WeightCount = Modular m × (¬ Few weights)
 Uncountable m weights mask (Weight i) = Modular m × Few weights × (i < length weights) × (m ≤ slice_index weights i) × Residues m weights i
-Uncountable m weights mask Mask = Modular m × Few weights × Residues m weights (length weights) × (Masks m mask → ⊥)
+Uncountable m weights mask Mask = Modular m × Few weights × Residues m weights (length weights) × (¬ Masks m mask)
 Uncountable m weights mask (ChartLength whole) = ⊥
 Uncountable m weights mask (ChartRecord i) = ⊥

@@ -13,7 +13,7 @@ pub record HasEffect {E : Type 0} (m : Meaning E) (w : List ℕ) (e : E) : Type 
 abbrev pub Judged : {E : Type 0} → Meaning E → List ℕ → Judgement → Type 0
 Judged m w permitted = Permitted m w
 Judged m w forbidden = Forbidden m w
-Judged m w neither = Below m.commands w → ⊥
+Judged m w neither = ¬ Below m.commands w
 
 abbrev pub judgement_name : Judgement → List ℕ
 judgement_name permitted = codes "permitted"

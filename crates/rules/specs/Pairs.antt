@@ -24,4 +24,4 @@ pub record PermitsBoth {A B P : Type 0} (a : Meaning A) (b : Meaning B) (p : Mea
 abbrev pub JudgedBoth : {A B : Type 0} → Meaning A → Meaning B → List ℕ → Judgement → Type 0
 JudgedBoth a b w permitted = Permitted a w × Permitted b w
 JudgedBoth a b w forbidden = Below a.commands w × Below b.commands w × (Forbidden a w ⊎ Forbidden b w)
-JudgedBoth a b w neither = (Below a.commands w × Below b.commands w) → ⊥
+JudgedBoth a b w neither = ¬ (Below a.commands w × Below b.commands w)

@@ -1,5 +1,6 @@
 -- The register: what is met, by number, in the order of meeting.
-use Rattle.std.specs.Prelude.{◌≡◌, ℕ, zero, suc, ◌+◌, ◌<◌, Bool, cond, List, [], ◌∷◌, ◌++◌, map, length, drop, Some, None, Option, nat_lt, slice_index_or}
+use Rattle.std.specs.Prelude.{◌≡◌, ℕ, zero, suc, ◌+◌, ◌<◌, Bool, if◌then◌else◌, List, [], ◌∷◌, ◌++◌, map, length, drop, Some, None, Option, nat_lt, slice_index_or}
+use Rattle.std.specs.List.{position_from}
 use Rattle.rules.specs.Behaviours.{Behaviour}
 use Rattle.rules.specs.Meaning.{Meaning}
 
@@ -34,12 +35,11 @@ mapped f (overfull reg e) = overfull (map f reg) (f e)
 
 -- the first place, counted from i, of what is the same as e
 abbrev pub place : {E : Type 0} → (E → E → Bool) → ℕ → List E → E → Option ℕ
-place same i [] e = None
-place same i (x ∷ reg) e = cond (same x e) (Some i) (place same (i + 1) reg e)
+place same i reg e = position_from (λ x. same x e) i reg
 
 abbrev pub entered_at : {E : Type 0} → ℕ → List E → E → Option ℕ → Survey E
 entered_at room reg e (Some i) = complete reg
-entered_at room reg e None = cond (nat_lt (length reg) room) (complete (reg ++ e ∷ [])) (overfull reg e)
+entered_at room reg e None = if nat_lt (length reg) room then complete (reg ++ e ∷ []) else overfull reg e
 
 -- e enters if it is new
 abbrev pub entered : {E : Type 0} → Scheme E → List E → E → Survey E
@@ -54,7 +54,7 @@ row s (suc n) c reg e = then_on (entered s reg (s.next e c)) (λ more. row s n (
 abbrev pub walk : {E : Type 0} → Scheme E → ℕ → ℕ → List E → Survey E
 walk s zero i reg = complete reg
 walk s (suc n) i reg =
-    cond (nat_lt i (length reg)) (then_on (row s s.commands 0 reg (slice_index_or reg i s.first)) (λ more. walk s n (i + 1) more)) (complete reg)
+    if nat_lt i (length reg) then then_on (row s s.commands 0 reg (slice_index_or reg i s.first)) (λ more. walk s n (i + 1) more) else complete reg
 
 -- what a slice holds that held old, once these entries were written at its front
 abbrev pub written : {E : Type 0} → List E → List E → List E

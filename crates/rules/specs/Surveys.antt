@@ -1,5 +1,5 @@
 -- What making an effect table answers, and what it leaves in the caller's slice.
-use Rattle.std.specs.Prelude.{◌≡◌, ℕ, ◌<◌, ◌≤◌, cond, List, map, length, Ok, Err, Result, nat_lt}
+use Rattle.std.specs.Prelude.{◌≡◌, ℕ, ◌<◌, ◌≤◌, if◌then◌else◌, List, map, length, Ok, Err, Result, nat_lt}
 use Rattle.std.specs.Result.{result_map_both as by_cases}
 use Rattle.rules.specs.declared.fault.EffectsFault.{EffectsFault}
 use Rattle.rules.specs.declared.fault.EffectsFault.TheVariants.{TooMany, ShortSlice}
@@ -23,11 +23,11 @@ tabled_by b (overfull ws w) = Err TooMany
 
 -- the answer for a slice of n entries
 abbrev pub tabled : Behaviour → ℕ → Result Table EffectsFault
-tabled b n = cond (nat_lt n 64) (Err (ShortSlice n)) (tabled_by b (met_lists b))
+tabled b n = if nat_lt n 64 then Err (ShortSlice n) else tabled_by b (met_lists b)
 
 -- the slice after
 abbrev pub slice_after : {E : Type 0} → Meaning E → List E → List E
-slice_after m old = cond (nat_lt (length old) 64) old (written (map (effect m) (entries (met_lists (behaviour m)))) old)
+slice_after m old = if nat_lt (length old) 64 then old else written (map (effect m) (entries (met_lists (behaviour m)))) old
 
 -- In words: a table is answered that numbers the rule, and is refused exactly for a slice that is too short, else for a rule with too many effects.
 abbrev pub Surveyed : {E : Type 0} → Meaning E → List E → List E → Result EffectTable EffectsFault → Type 0

@@ -1,5 +1,5 @@
 -- The effect table: what is known of a rule once its effects have numbers.
-use Rattle.std.specs.Prelude.{ℕ, Bool, List, [], ◌∷◌, ◌++◌, map, length, Some, None, Option, slice_index, slice_index_or}
+use Rattle.std.specs.Prelude.{ℕ, Bool, List, [], ◌∷◌, ◌++◌, map, length, slice_index, slice_index_or, unwrap_or}
 use Rattle.std.specs.List.{range_with_len}
 use Rattle.rules.specs.Behaviours.{Behaviour}
 use Rattle.foundation.specs.Bits.{number}
@@ -21,13 +21,9 @@ join_of t i j = slice_index (slice_index_or t.joins i []) j
 
 -- ---- the table of a register, of effects or of the lists that lead to them
 
-abbrev pub found : Option ℕ → ℕ
-found None = 0
-found (Some i) = i
-
 -- the number of e in the register
 abbrev pub numbered : {E : Type 0} → (E → E → Bool) → List E → E → ℕ
-numbered same reg e = found (place same 0 reg e)
+numbered same reg e = unwrap_or (place same 0 reg e) 0
 
 abbrev pub join_row : {E : Type 0} → (E → E → Bool) → (E → E → E) → List E → E → List ℕ
 join_row same join reg x = map (λ y. numbered same reg (join x y)) reg

@@ -1,5 +1,5 @@
 //! One list of commands under any order rule.
-ghost use Rattle.std.specs.Prelude.{◌≡◌, Some, MatchOption};
+ghost use Rattle.std.specs.Prelude.{Some, MatchOption};
 ghost use Rattle.rules.specs.Judgements.{Judged, HasEffect, judgement_name};
 ghost use Rattle.rules.specs.Meaning.{Below};
 
@@ -29,7 +29,7 @@ impl fmt::Display for Judgement {
 
 /// The effect of a list, or `None` where it has a command that the rule lacks.
 fn effect_of<R: OrderRule>(rule: &R, list: &[Command]) -> Option<R::Effect>
-    ensures { MatchOption result (Below (R.OrderRule.meaning rule.now).commands list.now → ⊥) (HasEffect (R.OrderRule.meaning rule.now) list.now) }
+    ensures { MatchOption result (¬ Below (R.OrderRule.meaning rule.now).commands list.now) (HasEffect (R.OrderRule.meaning rule.now) list.now) }
 {
     list.iter().try_fold(rule.neutral(), |so_far, c| {
         Some(rule.join(so_far, rule.command(*c)?))

@@ -22,7 +22,7 @@ pub(crate) fn find<R: OrderRule>(rule: &R, met: &[R::Effect], e: R::Effect) -> O
 }
 
 /// Enters an effect if it is new: how many there are then, or `None` where it finds no place.
-// Slice and count stay parameters: the effects live in the caller's slice, so that none is held here.
+// A listed form of this project: a register over the caller's slice, so slice and count are parameters.
 fn enter<R: OrderRule>(
     rule: &R,
     slice: &mut [R::Effect],
@@ -86,7 +86,7 @@ pub(crate) fn register<R: OrderRule>(rule: &R, slice: &mut [R::Effect]) -> Optio
     slice[0] = rule.neutral();
     let mut count = 1;
     let mut i = 0;
-    // No range can stand here, since `count` grows on the way.
+    // `count` grows on the way: no range serves, and `while let Some(..) = slice[..count].get(i)` is no plainer.
     while i < count {
         let from = slice[i];
         count = extend(rule, slice, count, from)?;

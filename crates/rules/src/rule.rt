@@ -14,8 +14,6 @@ pub trait OrderRule {
 
     ghost meaning: { Self → Meaning Self.Effect };
 
-    ghost lawful: { (x : Self) → Lawful (meaning x) };
-
     /// How many commands the rule has, 1 to 16.
     fn commands(&self) -> u8
         ensures { result ≡ (meaning self.now).commands };
@@ -39,4 +37,7 @@ pub trait OrderRule {
 
     fn breaks(&self, e: Self::Effect) -> bool
         ensures { (meaning self.now).own e → result ≡ (meaning self.now).breaks e };
+
+    // A law, since it stands below the last function: each implementation proves it, and no clause names it.
+    ghost lawful: { (x : Self) → Lawful (meaning x) };
 }

@@ -9,12 +9,15 @@ use foundation::effect_set::{EffectNumber, EffectSet};
 mod lookup;
 mod making;
 
+/// The numbers of one effect joined with each effect.
+type Row = Bounded<EffectNumber, 64>;
+
 #[derive(Drop)]
 pub struct EffectTable {
     /// The number of each command's effect.
     numbers: Bounded<EffectNumber, 16>,
-    /// A row for each effect, with the numbers of its joins with each effect.
-    joins: Bounded<Bounded<EffectNumber, 64>, 64>,
+    /// A row for each effect.
+    joins: Bounded<Row, 64>,
     breaking: EffectSet,
     ghost few: { length (items joins) ≤ 64 },
     ghost square: { Square (table_from numbers joins breaking) },

@@ -1,4 +1,4 @@
--- How many items a bounded list holds.
+-- How many items a bounded list holds, and that there is room for them.
 use Rattle.std.specs.Prelude.{◌≡◌, ℕ, ◌≤◌, length}
 use Rattle.std.proofs.Common.{arith, length-take}
 use Rattle.foundation.specs.declared.bounded.Bounded.{Bounded}

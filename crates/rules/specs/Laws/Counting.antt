@@ -1,5 +1,5 @@
 -- The laws of a count.
-use Rattle.std.proofs.Common.{sym, ◌∙◌, ap, arith, add_assoc, mod-eq_of_lt, add-zero, zero-add}
+use Rattle.std.proofs.Common.{sym, ◌∙◌, ap, add_assoc, mod-eq_of_lt, add-zero, zero-add}
 use Rattle.std.specs.Prelude.{ℕ, ◌+◌, ◌%◌, ◌≤◌, length}
 use Rattle.std.proofs.Math.Nat.{mod-add-mod, add-mod-mod}
 use Rattle.std.proofs.lemmas.Nat.{mod_below}

@@ -21,19 +21,15 @@ enum ChartRecord {
 
 impl ChartRecord {
     fn read(bytes: &[u8]) -> Option<ChartRecord>
-        ensures { MatchOption result (Formed bytes.now → ⊥) (λ x. Reads bytes.now x) }
+        ensures { MatchOption result (¬ Formed bytes.now) (Reads bytes.now) }
     {
         match bytes {
-            [0, from, command, to, 255, 255, 255, 255, 255, 255, 255, 255]
-                if *from < 8 && *command < 16 && *to < 8 => {
-                Some(ChartRecord::Arrow {
-                    from: *from,
-                    command: *command,
-                    to: *to,
-                })
+            &[0, from, command, to, 255, 255, 255, 255, 255, 255, 255, 255]
+                if from < 8 && command < 16 && to < 8 => {
+                Some(ChartRecord::Arrow { from, command, to })
             }
-            [1, state, 255, 255, 255, 255, 255, 255, 255, 255, 255, 255] if *state < 8 => {
-                Some(ChartRecord::Final { state: *state })
+            &[1, state, 255, 255, 255, 255, 255, 255, 255, 255, 255, 255] if state < 8 => {
+                Some(ChartRecord::Final { state })
             }
             _ => None,
         }

@@ -1,6 +1,5 @@
 //! Making the effect table of any rule.
-ghost use Rattle.std.specs.Prelude.{◌≡◌, ◌<◌, ◌≤◌, true, map, length, take, is_some};
-ghost use Rattle.std.specs.List.{AllByRecursion};
+ghost use Rattle.std.specs.Prelude.{◌≡◌, map, length, IsSome};
 ghost use Rattle.rules.specs.Behaviours.{behaviour};
 ghost use Rattle.foundation.specs.Bounds.{items};
 ghost use Rattle.rules.specs.Register.{place};
@@ -10,7 +9,7 @@ ghost use Rattle.rules.specs.Tables.{numbered, join_row, effects_table};
 use crate::fault::EffectsFault;
 use crate::register::{ROOM, find, register};
 use crate::rule::OrderRule;
-use crate::table::EffectTable;
+use crate::table::{EffectTable, Row};
 use foundation::bounded::Bounded;
 use foundation::effect_set::{EffectNumber, EffectSet};
 
@@ -46,7 +45,7 @@ fn table_of<R: OrderRule>(rule: &R, met: &[R::Effect]) -> EffectTable
 fn number_of<R: OrderRule>(rule: &R, met: &[R::Effect], e: R::Effect) -> EffectNumber
     requires all { AllMet (R.OrderRule.meaning rule.now) met.now }
     requires own { (R.OrderRule.meaning rule.now).own e }
-    requires known { is_some (place (R.OrderRule.meaning rule.now).same 0 met.now e) ≡ true }
+    requires known { IsSome (place (R.OrderRule.meaning rule.now).same 0 met.now e) }
     ensures { result ≡ numbered (R.OrderRule.meaning rule.now).same met.now e }
 {
     find(rule, met, e).unwrap() as EffectNumber
@@ -56,7 +55,7 @@ fn number_commands<R: OrderRule>(rule: &R, met: &[R::Effect]) -> Bounded<EffectN
     requires { AllMet (R.OrderRule.meaning rule.now) met.now }
     ensures { items result ≡ (effects_table (R.OrderRule.meaning rule.now) met.now).numbers }
 {
-    let mut numbers = Bounded::<EffectNumber, 16>::empty(0);
+    let mut numbers = Bounded::empty(0);
     for c in 0..rule.commands() {
         let effect = rule.command(c).unwrap();
         numbers.push(number_of(rule, met, effect)).unwrap();
@@ -65,13 +64,13 @@ fn number_commands<R: OrderRule>(rule: &R, met: &[R::Effect]) -> Bounded<EffectN
 }
 
 /// The numbers of `a` joined with each effect.
-fn join_each<R: OrderRule>(rule: &R, met: &[R::Effect], a: R::Effect) -> Bounded<EffectNumber, 64>
+fn join_each<R: OrderRule>(rule: &R, met: &[R::Effect], a: R::Effect) -> Row
     requires all { AllMet (R.OrderRule.meaning rule.now) met.now }
-    requires known { is_some (place (R.OrderRule.meaning rule.now).same 0 met.now a) ≡ true }
+    requires known { IsSome (place (R.OrderRule.meaning rule.now).same 0 met.now a) }
     requires own { (R.OrderRule.meaning rule.now).own a }
     ensures { items result ≡ join_row (R.OrderRule.meaning rule.now).same (R.OrderRule.meaning rule.now).join met.now a }
 {
-    let mut row = Bounded::<EffectNumber, 64>::empty(0);
+    let mut row = Bounded::empty(0);
     for b in met {
         row.push(number_of(rule, met, rule.join(a, *b))).unwrap();
     }
@@ -79,11 +78,11 @@ fn join_each<R: OrderRule>(rule: &R, met: &[R::Effect], a: R::Effect) -> Bounded
 }
 
 /// A row for each effect.
-fn join_all<R: OrderRule>(rule: &R, met: &[R::Effect]) -> Bounded<Bounded<EffectNumber, 64>, 64>
+fn join_all<R: OrderRule>(rule: &R, met: &[R::Effect]) -> Bounded<Row, 64>
     requires { AllMet (R.OrderRule.meaning rule.now) met.now }
     ensures { map items (items result) ≡ (effects_table (R.OrderRule.meaning rule.now) met.now).joins }
 {
-    let mut joins = Bounded::<Bounded<EffectNumber, 64>, 64>::empty(Bounded::empty(0));
+    let mut joins = Bounded::empty(Bounded::empty(0));
     for a in met {
         joins.push(join_each(rule, met, *a)).unwrap();
     }

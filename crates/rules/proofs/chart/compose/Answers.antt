@@ -1,9 +1,7 @@
 use Rattle.std.proofs.Common.{refl, rules, arith}
 use Rattle.std.specs.List.{range_with_len}
-use Rattle.std.proofs.iter.Yields.{nat_range_steps}
-use Rattle.std.proofs.lemmas.Fn.{fold_over}
 use Rattle.std.proofs.lemmas.Iterator.{YieldsList-from_range}
-use Rattle.rules.proofs.Joins.{So, Turn, so_more, so_all}
+use Rattle.rules.proofs.Joins.{fold_on, So, Turn, so_more, so_all}
 use Rattle.rules.proofs.chart.compose.Goals as goal
 
 pub returns : goal.returns
@@ -11,5 +9,5 @@ returns c =
     let a = c.args.a in
     let b = c.args.b in
     so_all a b c.fold.result
-    (fold_over nat_range_steps (λ p. p) _ (So a b) _ (λ ps joined p more f so k. (let t : Turn a b joined p more = search rules in so_more a b ps joined p more so t, search rules))
-    (record { start = 0; end = 8 }) (range_with_len 0 8) 0 c.fold.result (YieldsList-from_range 0 8 8 refl (omega arith)).runs (λ _ _. refl) c.fold.ensures.ran)
+    (fold_on _ _ (range_with_len 0 8) 0 c.fold.result (So a b) c.fold.ensures.ran (YieldsList-from_range 0 8 8 refl (omega arith))
+    (λ ps joined p more f so k. (let t : Turn a b joined p more = search rules in so_more a b ps joined p more so t, search rules)) (λ _ _. refl))

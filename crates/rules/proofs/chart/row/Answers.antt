@@ -1,22 +1,22 @@
-use Rattle.std.proofs.Common.{◌≡◌, ◌+◌, sym, subst, arith}
-use Rattle.rules.proofs.Joins.{Row, row-none, row_yes, row_no}
+use Rattle.std.proofs.Common.{rules, tests, ◌≡◌, ◌+◌, ◌*◌, ◌/◌, ◌^◌, eqb, [], ◌∷◌, ◌++◌, filter, sym, ◌∙◌, subst, arith}
+use lib.Bits.{bit_and, bit_or}
+use Rattle.std.specs.List.{range_with_len}
+use Rattle.std.proofs.lemmas.Iterator.{YieldsList-from_range}
+use Rattle.std.proofs.lemmas.Iterator.Consumers.{YieldsList-from_filter}
+use Rattle.foundation.specs.Laws.Bits.{bit_test}
+use Rattle.rules.specs.Boxes.{pairs}
+use Rattle.rules.proofs.Joins.{fold_on, Row, row-none, row_more, row_all}
 use Rattle.rules.proofs.chart.row.Goals as goal
-use Rattle.rules.proofs.chart.row.Goals.{then-a-p-eq1, else-a-p-eq1}
-
-pub loop-r-init : goal.loop-r-init
-loop-r-init c = row-none c.args.a c.args.b c.args.p
-
-pub loop-r-preserved : goal.loop-r-preserved
-loop-r-preserved c =
-    elim c.if-a-p-eq1.branch [
-      | then-a-p-eq1 w ↦ subst (Row c.args.a c.args.b c.args.p (c.loop-r.r + 1)) (sym w.states-is)
-          (row_yes c.args.a c.args.b c.args.p c.loop-r.r c.loop-r.states c.loop-r.invariant w.if-a-p-eq1.true)
-      | else-a-p-eq1 w ↦ subst (Row c.args.a c.args.b c.args.p (c.loop-r.r + 1)) (sym w.states-is)
-          (row_no c.args.a c.args.b c.args.p c.loop-r.r c.loop-r.states c.loop-r.invariant w.if-a-p-eq1.false)
-    ]
 
 pub returns : goal.returns
 returns c =
-    let e : c.loop-r.r ≡ 8 = omega arith in
-    let i = subst (λ n. Row c.args.a c.args.b c.args.p n c.loop-r.states) e c.loop-r.invariant in
-    record { small = i.0; bits = i.1 }
+    let a = c.args.a in
+    let b = c.args.b in
+    let p = c.args.p in
+    let row : Row b (filter (pairs a p) (range_with_len 0 8)) c.fold.result =
+    fold_on _ _ (filter (pairs a p) (range_with_len 0 8)) 0 c.fold.result (Row b) c.fold.ensures.ran
+    (YieldsList-from_filter _ (pairs a p) (YieldsList-from_range 0 8 8 c.filter.ensures.source (omega arith)) c.filter.ensures.closure
+    (λ r t q k. (search rules, (let is : t ≡ eqb (bit_and (a / 2 ^ (8 * p + r)) 1) 1 = search (rules, tests) in is ∙ bit_test a (8 * p + r)))))
+    (λ rs states r more f so k. (let is : more ≡ bit_or states (bit_and (b / 2 ^ (8 * r)) 255) = search rules in subst (Row b (rs ++ r ∷ [])) (sym is) (row_more b rs states r so), search rules))
+    (row-none b) in
+    record { small = row.0; bits = row_all a b p c.fold.result row }

@@ -7,4 +7,4 @@ pub returns : goal.returns
 returns g c =
     let m = g.R.OrderRule.meaning c.args.rule.now in
     let run = rw c.neutral.ensures at c.try_fold.ensures.ran in
-    folded m (g.R.OrderRule.lawful c.args.rule.now) _ _ (λ e y r h k. search rules) _ _ _ run (YieldsList-from_slice c.args.list.now cc)
+    folded m (g.met.R.OrderRule.lawful c.args.rule.now) _ _ (λ e y r h k. search rules) _ _ _ run (YieldsList-from_slice c.args.list.now cc)

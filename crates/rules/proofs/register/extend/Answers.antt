@@ -1,27 +1,14 @@
-use Rattle.std.proofs.Common.{take, sym, ◌∙◌, arith}
+use Rattle.std.proofs.Common.{sym, ◌∙◌}
 use Rattle.std.proofs.lemmas.Option.{MatchOption-at_some}
-use Rattle.rules.specs.Register.{Onward, row, of_effects}
-use Rattle.rules.proofs.Surveying.{onward_own, ready, rows_start, rows_more, rows_off, rows_end}
+use Rattle.rules.specs.Register.{Onward}
+use Rattle.rules.proofs.Surveying.{rows_more, rows_off}
 use Rattle.rules.proofs.register.extend.Goals as goal
-
-pub loop-c-init : goal.loop-c-init
-loop-c-init g c =
-    rows_start (g.R.OrderRule.meaning c.args.rule.now) (g.R.OrderRule.lawful c.args.rule.now) c.args.slice.now c.args.count c.args.from
-    (record { few = c.requires.few; room = c.requires.room; met = c.requires.met })
-
-pub enter-requires : goal.enter-requires
-enter-requires g c =
-    let m = g.R.OrderRule.meaning c.args.rule.now in
-    let law = g.R.OrderRule.lawful c.args.rule.now in
-    let r = ready m law c.args.slice.now c.loop-c.slice c.loop-c.met _ _ c.requires.room c.loop-c.invariant in
-    let step = MatchOption-at_some _ (Onward m c.args.from c.loop-c.c) c.unwrap-to.result c.unwrap-to.ensures c.lead.ensures in
-    record { few = r.few; room = r.room; met = r.met; own = onward_own m law c.args.from c.loop-c.c c.unwrap-to.result c.requires.own step }
 
 pub returns-in_err-met : goal.returns-in_err-met
 returns-in_err-met g c =
     let m = g.R.OrderRule.meaning c.args.rule.now in
     let step = MatchOption-at_some _ (Onward m c.args.from c.loop-c.c) c.unwrap-to.result c.unwrap-to.ensures c.lead.ensures in
-    let a = rows_off m (g.R.OrderRule.lawful c.args.rule.now) c.args.slice.now c.loop-c.slice c.enter.new.slice c.loop-c.met c.loop-c.c c.args.from c.unwrap-to.result _
+    let a = rows_off m (g.met.R.OrderRule.lawful c.args.rule.now) c.args.slice.now c.loop-c.slice c.enter.new.slice c.loop-c.met c.loop-c.c c.args.from c.unwrap-to.result _
     c.requires.room c.requires.own step c.loop-c.invariant (sym c.in_err-met.was ∙ c.enter.ensures.count) c.enter.ensures.slice in
     record { count = c.from_residual.ensures ∙ a.0; slice = a.1 }
 
@@ -29,11 +16,5 @@ pub loop-c-preserved : goal.loop-c-preserved
 loop-c-preserved g c =
     let m = g.R.OrderRule.meaning c.args.rule.now in
     let step = MatchOption-at_some _ (Onward m c.args.from c.loop-c.c) c.unwrap-to.result c.unwrap-to.ensures c.lead.ensures in
-    rows_more m (g.R.OrderRule.lawful c.args.rule.now) c.args.slice.now c.loop-c.slice c.enter.new.slice c.loop-c.met c.loop-c.c c.args.from c.unwrap-to.result _
+    rows_more m (g.met.R.OrderRule.lawful c.args.rule.now) c.args.slice.now c.loop-c.slice c.enter.new.slice c.loop-c.met c.loop-c.c c.args.from c.unwrap-to.result _
     c.requires.room c.requires.own step c.loop-c.invariant c.in_ok-met.met (sym c.in_ok-met.was ∙ c.enter.ensures.count) c.enter.ensures.slice
-
-pub returns : goal.returns
-returns g c =
-    let m = g.R.OrderRule.meaning c.args.rule.now in
-    let a = rows_end m (g.R.OrderRule.lawful c.args.rule.now) c.args.slice.now c.loop-c.slice c.loop-c.met c.loop-c.c c.args.from (row (of_effects m) m.commands 0 (take c.args.count c.args.slice.now) c.args.from) (omega (arith, c.commands-c-end.ensures)) c.loop-c.invariant in
-    record { count = a.0; slice = a.1 }

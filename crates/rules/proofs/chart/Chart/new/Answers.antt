@@ -1,4 +1,4 @@
-use Rattle.std.proofs.Common.{rules, of_calls, drop, ◌≡◌, ◌<◌, ◌+◌, ◌*◌, ◌/◌, length, Err, MatchResult, sym, ap, ◌∙◌, subst, arith, below_more, length-drop}
+use Rattle.std.proofs.Common.{rules, of_calls, drop, ◌≡◌, ◌+◌, ◌*◌, ◌/◌, length, Err, MatchResult, sym, ap, ◌∙◌, subst, arith, below_more, length-drop}
 use Rattle.std.proofs.lemmas.Option.{MatchOption-at_some, MatchOption-at_none}
 use Rattle.std.specs.Iterator.Adapters.{enumerate_count}
 use Rattle.rules.specs.declared.fault.RuleFault.TheVariants.{ChartRecord}

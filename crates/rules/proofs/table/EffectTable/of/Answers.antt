@@ -8,7 +8,7 @@ use Rattle.rules.proofs.table.EffectTable.of.Goals as goal
 pub returns-in_err-count : goal.returns-in_err-count
 returns-in_err-count g c =
     let m = g.R.OrderRule.meaning c.args.rule.now in
-    let law = g.R.OrderRule.lawful c.args.rule.now in
+    let law = g.met.R.OrderRule.lawful c.args.rule.now in
     let r = refused m law c.args.slice.now c.register.new.slice c.if-slice-lt-ROOM.false c.register.ensures.slice (sym c.in_err-count.ensures.ok_part ∙ c.register.ensures.count) in
     let e : c.from_residual.result ≡ Err TooMany = search rules in
     record {
@@ -19,13 +19,13 @@ returns-in_err-count g c =
 
 pub table_of-requires : goal.table_of-requires
 table_of-requires g c =
-    (counted_is (g.R.OrderRule.meaning c.args.rule.now) (g.R.OrderRule.lawful c.args.rule.now) c.args.slice.now c.register.new.slice c.if-slice-lt-ROOM.false c.register.ensures.slice
+    (counted_is (g.R.OrderRule.meaning c.args.rule.now) (g.met.R.OrderRule.lawful c.args.rule.now) c.args.slice.now c.register.new.slice c.if-slice-lt-ROOM.false c.register.ensures.slice
     c.in_ok-count.count (sym c.in_ok-count.ensures.ok_part ∙ c.register.ensures.count)).part
 
 pub returns : goal.returns
 returns g c =
     let m = g.R.OrderRule.meaning c.args.rule.now in
-    let k = counted_is m (g.R.OrderRule.lawful c.args.rule.now) c.args.slice.now c.register.new.slice c.if-slice-lt-ROOM.false c.register.ensures.slice
+    let k = counted_is m (g.met.R.OrderRule.lawful c.args.rule.now) c.args.slice.now c.register.new.slice c.if-slice-lt-ROOM.false c.register.ensures.slice
     c.in_ok-count.count (sym c.in_ok-count.ensures.ok_part ∙ c.register.ensures.count) in
     record {
       value = ap Ok c.table_of.ensures ∙ k.answer;

@@ -5,12 +5,12 @@ use Rattle.rules.proofs.table.making.breaking_set.Goals as goal
 use Rattle.rules.proofs.table.making.breaking_set.Goals.{then-breaks, else-breaks}
 
 pub overflow_cast-i : goal.overflow_cast-i
-overflow_cast-i g c = omega (arith, met_few (g.R.OrderRule.meaning c.args.rule.now) (g.R.OrderRule.lawful c.args.rule.now) c.args.met.now c.requires)
+overflow_cast-i g c = omega (arith, met_few (g.R.OrderRule.meaning c.args.rule.now) (g.met.R.OrderRule.lawful c.args.rule.now) c.args.met.now c.requires)
 
 pub loop-i-preserved : goal.loop-i-preserved
 loop-i-preserved g c =
     let m = g.R.OrderRule.meaning c.args.rule.now in
-    let law = g.R.OrderRule.lawful c.args.rule.now in
+    let law = g.met.R.OrderRule.lawful c.args.rule.now in
     let met = c.args.met.now in
     let i = c.loop-i.i in
     let e = c.index-met-i.result in

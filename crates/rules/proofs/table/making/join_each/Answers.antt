@@ -1,4 +1,4 @@
-use Rattle.std.proofs.Common.{◌≡◌, true, length, is_some, sym, ap, ◌∙◌, subst, arith, length-take-le}
+use Rattle.std.proofs.Common.{◌≡◌, length, IsSome, sym, ap, ◌∙◌, subst, arith, length-take-le}
 use Rattle.std.proofs.lemmas.List.{length-map}
 use Rattle.std.proofs.lemmas.Grind.{common_steps}
 use Rattle.foundation.specs.Bounds.{items}
@@ -10,7 +10,7 @@ use Rattle.rules.proofs.table.making.join_each.Goals as goal
 pub number_of-requires : goal.number_of-requires
 number_of-requires g c =
     let m = g.R.OrderRule.meaning c.args.rule.now in
-    let law = g.R.OrderRule.lawful c.args.rule.now in
+    let law = g.met.R.OrderRule.lawful c.args.rule.now in
     let met = c.args.met.now in
     let x = listed_found m law met c.requires.all c.args.a c.requires.own c.requires.known in
     let y = listed_read m law met c.requires.all c.loop-b.b-index c.b-item.result c.loop-b-test.true c.b-item.is in
@@ -19,13 +19,13 @@ number_of-requires g c =
     record {
       all = c.requires.all;
       own = subst m.own (sym is) (listed_own m law met c.requires.all (m.join c.args.a c.b-item.result) z);
-      known = subst (λ e. is_some (place m.same 0 met e) ≡ true) (sym is) (listed-known m law met c.requires.all (m.join c.args.a c.b-item.result) z);
+      known = subst (λ e. IsSome (place m.same 0 met e)) (sym is) (listed-known m law met c.requires.all (m.join c.args.a c.b-item.result) z);
     }
 
 pub unwrap-requires : goal.unwrap-requires
 unwrap-requires g c =
     let m = g.R.OrderRule.meaning c.args.rule.now in
-    let law = g.R.OrderRule.lawful c.args.rule.now in
+    let law = g.met.R.OrderRule.lawful c.args.rule.now in
     let few = met_few m law c.args.met.now c.requires.all in
     let size : length (items c.loop-b.row) ≡ c.loop-b.b-index = ap length c.loop-b.invariant ∙ length-map _ _ ∙ length-take-le c.loop-b.b-index c.args.met.now (omega arith) in
     c.push.ensures.room.1 (omega arith)
@@ -33,7 +33,7 @@ unwrap-requires g c =
 pub loop-b-preserved : goal.loop-b-preserved
 loop-b-preserved g c =
     let m = g.R.OrderRule.meaning c.args.rule.now in
-    let law = g.R.OrderRule.lawful c.args.rule.now in
+    let law = g.met.R.OrderRule.lawful c.args.rule.now in
     let met = c.args.met.now in
     let y = listed_read m law met c.requires.all c.loop-b.b-index c.b-item.result c.loop-b-test.true c.b-item.is in
     let is : c.join.result ≡ m.join c.args.a c.b-item.result = c.join.ensures c.requires.own (listed_own m law met c.requires.all c.b-item.result y) in

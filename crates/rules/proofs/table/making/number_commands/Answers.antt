@@ -1,4 +1,4 @@
-use Rattle.std.proofs.Common.{◌≡◌, ℕ, ◌<◌, ◌∷◌, [], ◌++◌, true, map, length, is_some, OnOk, sym, ap, ◌∙◌, subst, arith}
+use Rattle.std.proofs.Common.{◌≡◌, ℕ, ◌<◌, ◌∷◌, [], ◌++◌, map, length, IsSome, OnOk, sym, ap, ◌∙◌, subst, arith}
 use Rattle.std.specs.List.{range_with_len}
 use Rattle.std.proofs.lemmas.List.FromFn.{length-map-range_with_len, map-range_with_len_more}
 use Rattle.foundation.specs.Bounds.{items}
@@ -10,18 +10,18 @@ use Rattle.rules.proofs.table.making.number_commands.Goals as goal
 pub number_of-requires-clause-known : goal.number_of-requires-clause-known
 number_of-requires-clause-known g c =
     let m = g.R.OrderRule.meaning c.args.rule.now in
-    let law = g.R.OrderRule.lawful c.args.rule.now in
+    let law = g.met.R.OrderRule.lawful c.args.rule.now in
     let i = c.loop-c.c in
     let lt : i < m.commands = omega (arith, c.commands-c-end.ensures) in
     let some = c.command.ensures.some lt in
     let is : c.unwrap-effect.result ≡ m.command i = cc in
-    subst (λ e. is_some (place m.same 0 c.args.met.now e) ≡ true) (sym is) (listed-known m law c.args.met.now c.requires (m.command i) (listed_command m law c.args.met.now c.requires i lt))
+    subst (λ e. IsSome (place m.same 0 c.args.met.now e)) (sym is) (listed-known m law c.args.met.now c.requires (m.command i) (listed_command m law c.args.met.now c.requires i lt))
 
 pub unwrap-requires : goal.unwrap-requires
 unwrap-requires g c =
     let m = g.R.OrderRule.meaning c.args.rule.now in
     let size = ap length c.loop-c.invariant ∙ length-map-range_with_len (λ d. numbered m.same c.args.met.now (m.command d)) 0 c.loop-c.c in
-    c.push.ensures.room.1 (omega (arith, size, c.commands-c-end.ensures, (g.R.OrderRule.lawful c.args.rule.now).few))
+    c.push.ensures.room.1 (omega (arith, size, c.commands-c-end.ensures, (g.met.R.OrderRule.lawful c.args.rule.now).few))
 
 pub loop-c-preserved : goal.loop-c-preserved
 loop-c-preserved g c =

@@ -1,8 +1,5 @@
-use Rattle.std.proofs.Common.{◌≡◌, length, sym, ap, subst, arith}
-use Rattle.std.proofs.lemmas.List.{length-map}
-use Rattle.foundation.specs.Bounds.{items}
-use Rattle.rules.specs.Tables.{effects_table}
-use Rattle.rules.specs.Views.{table_from, NumbersSome, Square}
+use Rattle.std.proofs.Common.{sym, ap, subst, arith}
+use Rattle.rules.specs.Views.{NumbersSome, Square}
 use Rattle.rules.proofs.Tabling.{met_few}
 use Rattle.rules.proofs.TableViews.{view_is, square, numbers_some}
 use Rattle.rules.proofs.table.making.table_of.Goals as goal
@@ -10,7 +7,7 @@ use Rattle.rules.proofs.table.making.table_of.Goals as goal
 pub invariant_of-result : goal.invariant_of-result
 invariant_of-result g c =
     let m = g.R.OrderRule.meaning c.args.rule.now in
-    let law = g.R.OrderRule.lawful c.args.rule.now in
+    let law = g.met.R.OrderRule.lawful c.args.rule.now in
     let met = c.args.met.now in
     let is = view_is m met c.number_commands.result c.join_all.result c.breaking_set.result c.number_commands.ensures c.join_all.ensures c.breaking_set.ensures in
     let size = ap (λ t. t.count) is in
