@@ -15,6 +15,7 @@ pub enum JudgeFault {
     Solve(SolveFault),
 }
 
+// Written out, since a derived conversion has no contract, and `examine` says which fault a `?` makes.
 impl From<RuleFault> for JudgeFault {
     ghost from_gives = { λ f r. r ≡ Rule f };
 
