@@ -51,7 +51,6 @@ impl<A: OrderRule, B: OrderRule> OrderRule for Pair<A, B> {
     }
 
     fn command(&self, c: Command) -> Option<(A::Effect, B::Effect)> {
-        // A listed form of this project: the answers of the two parts are options, taken apart here.
         match (self.first.command(c), self.second.command(c)) {
             (Some(a), Some(b)) => Some((a, b)),
             _ => None,

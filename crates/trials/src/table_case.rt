@@ -73,7 +73,12 @@ impl fmt::Display for TableOutcome {
 }
 
 fn write_table<W: fmt::Write>(table: &EffectTable, f: &mut fmt::Formatter<W>) -> fmt::Result {
-    write!(f, "effects {} commands {} ", table.effects(), table.commands())?;
+    write!(
+        f,
+        "effects {} commands {} ",
+        table.effects(),
+        table.commands()
+    )?;
     write!(f, "breaking {} numbers ", table.breaking())?;
     write_numbers(table, f)?;
     write!(f, " joins {}", join_checksum(table))

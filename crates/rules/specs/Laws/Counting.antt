@@ -13,7 +13,7 @@ use Rattle.foundation.specs.Laws.Bounds.{items_fit}
 pub counted_lawful : (m : ℕ) (weights : Bounded ℕ 16) (mask : ℕ) → Modular m → 1 ≤ length (items weights) → Residues m (items weights) (length (items weights)) → Lawful (counted m (items weights) mask)
 counted_lawful m weights mask modular some residues = record {
   some = some;
-  few = omega (arith, items_fit weights);
+  few = items_fit weights;
   own_neutral = modular.0;
   own_command = residues;
   own_join = λ a b _ _. mod_below (a + b) m modular.0;

@@ -3,7 +3,7 @@ ghost use Rattle.std.specs.Prelude.{◌≡◌, MatchOption, MatchResult};
 ghost use Rattle.rules.specs.Automata.{Formed, Chartable, Unchartable};
 ghost use Rattle.rules.specs.Boxes.{Charts};
 ghost use Rattle.rules.specs.ChartRecords.{Reads, Inside, drawn_boxes, drawn_finals};
-ghost use Rattle.rules.specs.Kinds.{chart_meaning};
+ghost use Rattle.rules.specs.contracts.chart.ChartOrderRule.TheImpl.{ghosts};
 
 use crate::chart::Chart;
 use crate::fault::RuleFault;
@@ -39,7 +39,7 @@ impl ChartRecord {
 impl Chart {
     /// A chart from its records, 12 bytes each, back to back.
     pub fn new(bytes: &[u8]) -> Result<Chart, RuleFault>
-        ensures { MatchResult result (λ x. Chartable bytes.now × Charts bytes.now (chart_meaning x)) (λ f. Unchartable bytes.now f) }
+        ensures { MatchResult result (λ x. Chartable bytes.now × Charts bytes.now (ghosts.meaning x)) (λ f. Unchartable bytes.now f) }
     {
         let whole = bytes.len() / RECORD_LEN;
         if bytes.len() % RECORD_LEN != 0 || whole > MOST_RECORDS {

@@ -1,7 +1,7 @@
 //! Making a count from its numbers.
 ghost use Rattle.std.specs.Result.{MatchResult};
 ghost use Rattle.rules.specs.Counting.{Counts, Countable, Uncountable};
-ghost use Rattle.rules.specs.Kinds.{count_meaning};
+ghost use Rattle.rules.specs.contracts.count.CountOrderRule.TheImpl.{ghosts};
 
 use crate::count::Count;
 use crate::fault::RuleFault;
@@ -10,7 +10,7 @@ use foundation::bounded::Bounded;
 impl Count {
     /// A count from its modulus, one weight for each command, and the mask of permitted residues.
     pub fn new(modulus: u8, weights: &[u8], permitted: u64) -> Result<Count, RuleFault>
-        ensures made { MatchResult result (λ x. Countable modulus weights.now permitted × Counts modulus weights.now permitted (count_meaning x)) (λ f. Uncountable modulus weights.now permitted f) }
+        ensures made { MatchResult result (λ x. Countable modulus weights.now permitted × Counts modulus weights.now permitted (ghosts.meaning x)) (λ f. Uncountable modulus weights.now permitted f) }
     {
         if modulus == 0 || modulus > 64 {
             return Err(RuleFault::Modulus);
