@@ -86,7 +86,8 @@ pub fn examine(chart: &[u8], procs: Option<&[u8]>) -> Result<Option<Report>, Jud
     }))
 }
 
-/// A row for each procedure with a record, in rising number.
+/// A row for each procedure with a record, in rising number. They are pushed, since a chain could only
+/// collect them on the heap.
 fn rows(set: &ProcedureSet, solution: &Solution) -> Bounded<Row, 32>
     ensures { items result ≡ rows_of (entries set.now) (settled_of solution.now).formulas }
 {
