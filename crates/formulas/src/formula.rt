@@ -1,5 +1,5 @@
 //! Formulas: which sets of effects the field can force, by choices of both sides.
-ghost use Rattle.std.specs.Prelude.{◌≡◌, ◌≤◌, length};
+ghost use Rattle.std.specs.Prelude.{◌≤◌, length};
 ghost use Rattle.formulas.specs.Clauses.{clause_list};
 
 use crate::clauses::Clauses;

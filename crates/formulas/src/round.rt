@@ -1,4 +1,6 @@
 //! Rounds: a formula for each procedure.
+ghost use Rattle.std.specs.Prelude.{◌≡◌, length};
+
 use crate::formula::Formula;
 use crate::symbol::PROCEDURES;
 
@@ -9,4 +11,5 @@ mod next;
 #[derive(Clone, Copy, PartialEq)]
 pub(crate) struct Round {
     formulas: [Formula; PROCEDURES as usize],
+    ghost whole: { length formulas ≡ 32 },
 }

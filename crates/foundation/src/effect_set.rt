@@ -3,7 +3,6 @@ ghost use Rattle.std.specs.Prelude.{◌≡◌, ℕ, true, false, not, ◌&&◌, 
 ghost use Rattle.std.specs.Int.Count.{count_trailing_zeros};
 ghost use Rattle.foundation.specs.Bits.{has};
 ghost use Rattle.foundation.specs.Sets.{added, within, size, First, members, hits};
-ghost use Rattle.std.specs.Ordering.{on};
 ghost use Rattle.std.specs.List.{slice_get};
 ghost use Rattle.std.specs.Cmp.Rules.{comparing};
 ghost use Rattle.std.proofs.Common.{rules};

@@ -22,7 +22,7 @@ pub(crate) fn find<R: OrderRule>(rule: &R, met: &[R::Effect], e: R::Effect) -> O
 }
 
 /// Enters an effect if it is new: how many there are then, or `None` where it finds no place.
-// A listed form of this project: a register over the caller's slice, so slice and count are parameters.
+// The effects live in the caller's slice, whose first `count` entries are in use: both stay parameters.
 fn enter<R: OrderRule>(
     rule: &R,
     slice: &mut [R::Effect],

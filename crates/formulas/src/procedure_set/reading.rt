@@ -17,7 +17,7 @@ use foundation::bounded::Bounded;
 
 impl ProcedureSet {
     /// A procedure set from its records, 12 bytes each, back to back.
-    // No `TryFrom`: that trait has one clause without a name, and here are three promises.
+    // No `TryFrom`: `read` says at each caller that bytes in a format are read, as `Chart::new` does.
     pub fn read(bytes: &[u8]) -> Result<ProcedureSet, RecordsFault>
         ensures value { viewed result ≡ read_set bytes.now }
         ensures words { Read bytes.now (viewed result) }

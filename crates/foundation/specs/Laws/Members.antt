@@ -1,4 +1,4 @@
--- The laws of the members of a set, for list_any width.
+-- The laws of the members of a set, for any width.
 use Rattle.std.specs.Prelude.{◌≡◌, ℕ, zero, suc, ◌+◌, ◌-◌, ◌*◌, ◌/◌, ◌%◌, ◌^◌, ◌<◌, ◌≤◌, min, Bool, true, false, cond, not, ◌&&◌, ◌||◌, List, [], ◌∷◌, map, length, Decides, ◌==◌, bit_and, bit_or, nat_eq, refl}
 use Rattle.std.proofs.Common.{sym, ap, ap₂, ◌∙◌, ⊎_elim, le_refl, not-suc-le-zero, pow-suc, arith}
 use Rattle.std.proofs.Math.Path.{fun_ext}
