@@ -9,10 +9,13 @@ use foundation::effect_set::EffectSet;
 
 mod offering;
 
+/// How many clauses there is room for.
+pub(crate) const MOST_CLAUSES: usize = 64;
+
 /// 0 to 64 clauses, none within another, in rising order. Formulas are built in it.
 #[derive(Clone, Copy)]
 pub(crate) struct Clauses {
-    sets: Bounded<EffectSet, 64>,
+    sets: Bounded<EffectSet, MOST_CLAUSES>,
     ghost rising: { IsStrictlyIncreasing (items sets) },
     ghost apart: { none_within (items sets) ≡ true },
 }

@@ -68,7 +68,8 @@ impl From<SolveFault> for Refusal {
     }
 }
 
-/// One clause more would stand in a formula than there is room for.
+/// One clause more would stand in a formula than there is room for. It has a name of its own beside `Full`,
+/// since callers see a formula and not the list that holds it.
 #[derive(Clone, Copy)]
 pub struct Overflow;
 

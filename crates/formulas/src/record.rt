@@ -9,7 +9,7 @@ use foundation::bounded::Bounded;
 
 mod reading;
 
-/// How many bytes a record has.
+/// How many bytes a record has. That a chart's have as many is chance: the two formats have nothing to do with one another.
 pub(crate) const RECORD_LEN: usize = 12;
 
 /// How many symbols a body has at most.

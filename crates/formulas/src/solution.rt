@@ -23,7 +23,7 @@ use rules::table::EffectTable;
 use std::marker::Model;
 
 /// How many rounds can be allowed.
-const MOST_ROUNDS: u32 = 1000;
+pub const MOST_ROUNDS: u32 = 1000;
 
 /// The first round that is equal to the one before it, with its number.
 #[derive(Clone, Copy)]

@@ -43,7 +43,7 @@ pub enum Owner {
     Field,
 }
 
-/// A byte that stands for no owner.
+/// A byte that stands for no owner; another error than for a symbol, so that a caller can tell them apart.
 #[derive(Clone, Copy, Debug, PartialEq, Eq)]
 pub struct UnknownOwner;
 

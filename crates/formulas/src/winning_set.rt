@@ -33,8 +33,7 @@ fn effects_where<F: Fn(EffectNumber) -> bool>(table: &EffectTable, passes: F) ->
     ensures { (f : ℕ → Bool) → ((k : ℕ) → k < (view table.now).count → (r : Bool) → F.post passes k r → r ≡ f k) → result ≡ effects_where (view table.now) f }
 {
     let mut passing = EffectSet::empty();
-    for i in 0..table.effects() {
-        let k = i as EffectNumber;
+    for k in 0..table.effects() as EffectNumber {
         if passes(k) {
             passing = passing.with(k);
         }

@@ -9,7 +9,7 @@ ghost use Rattle.judge.specs.Texts.{row_text, report_text};
 
 use crate::fault::JudgeFault;
 use formulas::procedure_set::ProcedureSet;
-use formulas::solution::Solution;
+use formulas::solution::{MOST_ROUNDS, Solution};
 use formulas::symbol::{Owner, PROCEDURES, Procedure};
 use foundation::bounded::Bounded;
 use rules::chart::Chart;
@@ -18,7 +18,7 @@ use std::fmt;
 
 /// Within how many rounds a solution is looked for: as many as can be allowed, so that a set is
 /// refused as unsettled only where nobody could have it solved.
-const ALLOWANCE: u32 = 1000;
+const ALLOWANCE: u32 = MOST_ROUNDS;
 
 /// What is told of one procedure.
 #[derive(Clone, Copy)]
@@ -86,8 +86,8 @@ pub fn examine(chart: &[u8], procs: Option<&[u8]>) -> Result<Option<Report>, Jud
     }))
 }
 
-/// A row for each procedure with a record, in rising number. They are pushed, since a chain could only
-/// collect them on the heap.
+/// A row for each procedure with a record, in rising number. They are pushed onto a list in the value: a
+/// `Vec` could want memory, and what `examine` refuses is what the files say, and nothing else.
 fn rows(set: &ProcedureSet, solution: &Solution) -> Bounded<Row, 32>
     ensures { items result ≡ rows_of (entries set.now) (settled_of solution.now).formulas }
 {

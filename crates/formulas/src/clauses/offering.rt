@@ -4,7 +4,7 @@ ghost use Rattle.foundation.specs.Bounds.{items};
 ghost use Rattle.formulas.specs.Clauses.{clause_list, Spots, entering, Offered, AndAlso, SmallestOf, OfferedAll};
 ghost use Rattle.formulas.specs.Formulas.{outside};
 
-use crate::clauses::Clauses;
+use crate::clauses::{Clauses, MOST_CLAUSES};
 use crate::fault::Overflow;
 use foundation::bounded::{Bounded, Full};
 use foundation::effect_set::EffectSet;
@@ -38,6 +38,7 @@ impl Clauses {
     fn place(&self, c: EffectSet) -> Option<usize>
         ensures { Spots c (clause_list self.now) result }
     {
+        // A form of this project: the search breaks with the place that it found, or with none.
         'search: {
             for (i, clause) in self.as_slice().iter().enumerate() {
                 if clause.is_within(c) {
@@ -53,12 +54,12 @@ impl Clauses {
 
     /// The clauses with `c` at its place and without those that contain it, unless that is more than
     /// there is room for.
-    fn entered(&self, at: usize, c: EffectSet) -> Result<Bounded<EffectSet, 64>, Overflow>
+    fn entered(&self, at: usize, c: EffectSet) -> Result<Bounded<EffectSet, MOST_CLAUSES>, Overflow>
         requires { at ≤ length (items self.now.sets) }
         ensures { MatchResult result (λ b. items b ≡ entering c (clause_list self.now) at) (λ _. 64 < length (entering c (clause_list self.now) at)) }
     {
         let (front, rest) = self.as_slice().split_at(at);
-        let mut next = Bounded::<EffectSet, 64>::from_slice(front, c).ok_or(Overflow)?;
+        let mut next = Bounded::<EffectSet, MOST_CLAUSES>::from_slice(front, c).ok_or(Overflow)?;
         next.push(c)?;
         add_outside(&mut next, rest, c)?;
         Ok(next)
@@ -90,7 +91,7 @@ impl Clauses {
 
 /// Adds the clauses that do not contain `c`, as far as there is room for them.
 fn add_outside(
-    next: &mut Bounded<EffectSet, 64>,
+    next: &mut Bounded<EffectSet, MOST_CLAUSES>,
     rest: &[EffectSet],
     c: EffectSet,
 ) -> Result<(), Full>

@@ -53,6 +53,7 @@ impl Formula {
         ensures means { IfOk result (λ f. Or (formula_list self.now) (formula_list other.now) (formula_list f)) }
     {
         let mut clauses = Clauses::none();
+        // A form of this project: both loops are left by their label, with the error.
         'unions: {
             for k in self.clauses() {
                 for l in other.clauses() {

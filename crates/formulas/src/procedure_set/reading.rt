@@ -17,7 +17,7 @@ use foundation::bounded::Bounded;
 
 impl ProcedureSet {
     /// A procedure set from its records, 12 bytes each, back to back.
-    // No `TryFrom`: `read` says at each caller that bytes in a format are read, as `Chart::new` does.
+    // No `TryFrom`: it parses bytes of a format, which `read` says at its callers and `try_from` would not.
     pub fn read(bytes: &[u8]) -> Result<ProcedureSet, RecordsFault>
         ensures value { viewed result ≡ read_set bytes.now }
         ensures words { Read bytes.now (viewed result) }

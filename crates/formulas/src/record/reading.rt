@@ -15,7 +15,7 @@ const FILL: u8 = 255;
 
 impl Record {
     /// The record that the bytes say, or `None` where they have another form.
-    // No `TryFrom`: it would need an error type, which the one caller would throw away.
+    // No `TryFrom`: it parses bytes of a format, which `read` says at its caller and `try_from` would not.
     pub(crate) fn read(bytes: &[u8]) -> Option<Record>
         ensures { option_map entry_of result ≡ entry_in bytes.now }
     {

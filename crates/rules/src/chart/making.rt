@@ -20,7 +20,7 @@ enum ChartRecord {
 }
 
 impl ChartRecord {
-    // No `TryFrom`: it would need an error type, which the one caller would throw away.
+    // No `TryFrom`: it parses bytes of a format, which `read` says at its caller and `try_from` would not.
     fn read(bytes: &[u8]) -> Option<ChartRecord>
         ensures { MatchOption result (¬ Formed bytes.now) (Reads bytes.now) }
     {
