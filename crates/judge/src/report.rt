@@ -13,7 +13,7 @@ use formulas::solution::{MOST_ROUNDS, Solution};
 use formulas::symbol::{Owner, PROCEDURES, Procedure};
 use foundation::bounded::Bounded;
 use rules::chart::Chart;
-use rules::table::EffectTable;
+use rules::table::{EffectTable, MOST_EFFECTS};
 use std::fmt;
 
 /// Within how many rounds a solution is looked for: as many as can be allowed, so that a set is
@@ -76,7 +76,7 @@ pub fn examine(chart: &[u8], procs: Option<&[u8]>) -> Result<Option<Report>, Jud
         return Ok(None);
     };
     let set = ProcedureSet::read(records)?;
-    let mut met = [0; 64];
+    let mut met = [0; MOST_EFFECTS];
     let table = EffectTable::of(&rule, &mut met)?;
     let solution = Solution::of(&set, &table, ALLOWANCE)?;
     Ok(Some(Report {

@@ -7,9 +7,7 @@ ghost use Rattle.std.specs.List.{AllByRecursion};
 ghost use Rattle.rules.specs.Register.{Onward, place, entered, row, outcome, entries, written, of_effects, met_effects};
 
 use crate::rule::{Command, OrderRule};
-
-/// How many effects have a number.
-pub(crate) const ROOM: usize = 64;
+use crate::table::MOST_EFFECTS;
 
 /// The number of an effect, if it was met.
 pub(crate) fn find<R: OrderRule>(rule: &R, met: &[R::Effect], e: R::Effect) -> Option<usize>
@@ -22,7 +20,7 @@ pub(crate) fn find<R: OrderRule>(rule: &R, met: &[R::Effect], e: R::Effect) -> O
 }
 
 /// Enters an effect if it is new: how many there are then, or `None` where it finds no place.
-// The effects live in the caller's slice, whose first `count` entries are in use: both stay parameters.
+// The effects live in the caller's slice, whose first `count` entries are in use: both stay parameters, here and below.
 fn enter<R: OrderRule>(
     rule: &R,
     slice: &mut [R::Effect],
@@ -38,7 +36,7 @@ fn enter<R: OrderRule>(
 {
     if find(rule, &slice[..count], e).is_some() {
         Some(count)
-    } else if count < ROOM {
+    } else if count < MOST_EFFECTS {
         slice[count] = e;
         Some(count + 1)
     } else {

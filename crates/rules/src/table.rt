@@ -9,15 +9,18 @@ use foundation::effect_set::{EffectNumber, EffectSet};
 mod lookup;
 mod making;
 
+/// How many effects a table has at most: each has a place in a set of effect numbers.
+pub const MOST_EFFECTS: usize = 64;
+
 /// The numbers of one effect joined with each effect.
-type Row = Bounded<EffectNumber, 64>;
+type Row = Bounded<EffectNumber, MOST_EFFECTS>;
 
 #[derive(Drop)]
 pub struct EffectTable {
     /// The number of each command's effect.
     numbers: Bounded<EffectNumber, 16>,
     /// A row for each effect.
-    joins: Bounded<Row, 64>,
+    joins: Bounded<Row, MOST_EFFECTS>,
     breaking: EffectSet,
     ghost few: { length (items joins) ≤ 64 },
     ghost square: { Square (table_from numbers joins breaking) },

@@ -7,9 +7,9 @@ ghost use Rattle.rules.specs.Surveys.{view, viewed, tabled, slice_after, Surveye
 ghost use Rattle.rules.specs.Tables.{numbered, join_row, effects_table};
 
 use crate::fault::EffectsFault;
-use crate::register::{ROOM, find, register};
+use crate::register::{find, register};
 use crate::rule::OrderRule;
-use crate::table::{EffectTable, Row};
+use crate::table::{EffectTable, MOST_EFFECTS, Row};
 use foundation::bounded::Bounded;
 use foundation::effect_set::{EffectNumber, EffectSet};
 
@@ -21,7 +21,7 @@ impl EffectTable {
         ensures slice { slice.new ≡ slice_after (R.OrderRule.meaning rule.now) slice.old }
         ensures numbers { Surveyed (R.OrderRule.meaning rule.now) slice.old slice.new result }
     {
-        if slice.len() < ROOM {
+        if slice.len() < MOST_EFFECTS {
             return Err(EffectsFault::ShortSlice(slice.len()));
         }
         let count = register(rule, slice).ok_or(EffectsFault::TooMany)?;
@@ -78,7 +78,7 @@ fn join_each<R: OrderRule>(rule: &R, met: &[R::Effect], a: R::Effect) -> Row
 }
 
 /// A row for each effect.
-fn join_all<R: OrderRule>(rule: &R, met: &[R::Effect]) -> Bounded<Row, 64>
+fn join_all<R: OrderRule>(rule: &R, met: &[R::Effect]) -> Bounded<Row, MOST_EFFECTS>
     requires { AllMet (R.OrderRule.meaning rule.now) met.now }
     ensures { map items (items result) ≡ (effects_table (R.OrderRule.meaning rule.now) met.now).joins }
 {
@@ -90,7 +90,8 @@ fn join_all<R: OrderRule>(rule: &R, met: &[R::Effect]) -> Bounded<Row, 64>
 }
 
 /// The numbers of the effects that break the rule.
-// Winning sets have a like loop, `effects_where`. One for both would be public, and ask that its test may be called.
+// Winning sets have a like loop, `effects_where`. One for both would be public and ask
+// that its test may be called, and no public function here asks anything of its callers.
 fn breaking_set<R: OrderRule>(rule: &R, met: &[R::Effect]) -> EffectSet
     requires { AllMet (R.OrderRule.meaning rule.now) met.now }
     ensures { result ≡ (effects_table (R.OrderRule.meaning rule.now) met.now).breaking }

@@ -9,26 +9,26 @@ pub returns-in_err-count : goal.returns-in_err-count
 returns-in_err-count g c =
     let m = g.R.OrderRule.meaning c.args.rule.now in
     let law = g.met.R.OrderRule.lawful c.args.rule.now in
-    let r = refused m law c.args.slice.now c.register.new.slice c.if-slice-lt-ROOM.false c.register.ensures.slice (sym c.in_err-count.ensures.ok_part ∙ c.register.ensures.count) in
+    let r = refused m law c.args.slice.now c.register.new.slice c.if-slice-lt-MOST_EFFECTS.false c.register.ensures.slice (sym c.in_err-count.ensures.ok_part ∙ c.register.ensures.count) in
     let e : c.from_residual.result ≡ Err TooMany = search rules in
     record {
       value = ap viewed e ∙ r.answer;
-      slice = slice_is m law c.args.slice.now c.register.new.slice c.if-slice-lt-ROOM.false c.register.ensures.slice;
-      numbers = subst (Surveyed m c.args.slice.now c.register.new.slice) (sym e) (c.if-slice-lt-ROOM.false, r.exceeds);
+      slice = slice_is m law c.args.slice.now c.register.new.slice c.if-slice-lt-MOST_EFFECTS.false c.register.ensures.slice;
+      numbers = subst (Surveyed m c.args.slice.now c.register.new.slice) (sym e) (c.if-slice-lt-MOST_EFFECTS.false, r.exceeds);
     }
 
 pub table_of-requires : goal.table_of-requires
 table_of-requires g c =
-    (counted_is (g.R.OrderRule.meaning c.args.rule.now) (g.met.R.OrderRule.lawful c.args.rule.now) c.args.slice.now c.register.new.slice c.if-slice-lt-ROOM.false c.register.ensures.slice
+    (counted_is (g.R.OrderRule.meaning c.args.rule.now) (g.met.R.OrderRule.lawful c.args.rule.now) c.args.slice.now c.register.new.slice c.if-slice-lt-MOST_EFFECTS.false c.register.ensures.slice
     c.in_ok-count.count (sym c.in_ok-count.ensures.ok_part ∙ c.register.ensures.count)).part
 
 pub returns : goal.returns
 returns g c =
     let m = g.R.OrderRule.meaning c.args.rule.now in
-    let k = counted_is m (g.met.R.OrderRule.lawful c.args.rule.now) c.args.slice.now c.register.new.slice c.if-slice-lt-ROOM.false c.register.ensures.slice
+    let k = counted_is m (g.met.R.OrderRule.lawful c.args.rule.now) c.args.slice.now c.register.new.slice c.if-slice-lt-MOST_EFFECTS.false c.register.ensures.slice
     c.in_ok-count.count (sym c.in_ok-count.ensures.ok_part ∙ c.register.ensures.count) in
     record {
       value = ap Ok c.table_of.ensures ∙ k.answer;
       slice = k.slice;
-      numbers = (c.if-slice-lt-ROOM.false, subst (λ t. Numbered m t c.args.slice.now c.register.new.slice) (sym c.table_of.ensures) k.numbered);
+      numbers = (c.if-slice-lt-MOST_EFFECTS.false, subst (λ t. Numbered m t c.args.slice.now c.register.new.slice) (sym c.table_of.ensures) k.numbered);
     }
