@@ -1,6 +1,8 @@
 -- The parts of an effect table, filled from all effects that were met.
-use Rattle.std.proofs.Common.{◌≡◌, ℕ, ◌+◌, ◌*◌, ◌^◌, ◌<◌, ◌≤◌, Bool, true, false, cond, ltb, List, [], ◌∷◌, ◌++◌, length, get_or, is_some, IsSome, Some, None, Option, sym, refl, ap, ◌∙◌, subst, ap₂, add-one, arith}
+use Rattle.std.proofs.Common.{◌≡◌, ℕ, ◌+◌, ◌*◌, ◌^◌, ◌<◌, ◌≤◌, Bool, true, false, cond, ltb, List, [], ◌∷◌, ◌++◌, map, length, get_or, is_some, IsSome, Some, None, Option, sym, refl, ap, ◌∙◌, subst, ap₂, add-one, arith}
+use mathlib.Core.Logic.{∥∥₁_elim}
 use lib.Bits.{bit_or, or_shifted_r}
+use Rattle.std.specs.Coded.{Coded, Coded-set, coded_list}
 use Rattle.std.specs.List.{AllByRecursion}
 use Rattle.std.proofs.ByRecursion.{All-append, All-get_or, All-map, All-weaker}
 use Rattle.std.proofs.lemmas.List.{get_or-map, get_or_read, length-map}
@@ -8,7 +10,7 @@ use Rattle.std.proofs.lemmas.Bool.{both_ways, cond-true, lt-ltb}
 use Rattle.rules.specs.Behaviours.{behaviour}
 use Rattle.foundation.specs.Bits.{number}
 use Rattle.rules.specs.Meaning.{Meaning, Lawful, Below, effect}
-use Rattle.rules.specs.Register.{complete, place, met_lists}
+use Rattle.rules.specs.Register.{Survey, complete, overfull, place, met_lists}
 use Rattle.foundation.specs.Sets.{added}
 use Rattle.rules.specs.Surveys.{AllMet}
 use Rattle.foundation.specs.Laws.Bits.{number_lt}
@@ -79,6 +81,23 @@ module _ {E : Type 0} (m : Meaning E) (law : Lawful m) (met : List E) (all : All
     below = All-append (λ c. c < m.commands) x.list y.list x.below y.below;
     is = ap₂ m.join x.is y.is ∙ sym (effect-append m law x.list y.list x.below y.below);
   }
+
+-- ---- from the bare fact that such lists exist, as a value of the code holds it
+
+abbrev MetBy : {E : Type 0} → Meaning E → List E → Survey (List ℕ) → Type 0
+MetBy m met (complete ws) = met ≡ map (effect m) ws
+MetBy m met (overfull ws w) = ⊥
+
+MetBy-prop : {E : Type 0} → Coded E → (m : Meaning E) (met : List E) (s : Survey (List ℕ)) → IsProp (MetBy m met s)
+MetBy-prop code m met (complete ws) = Coded-set (coded_list code) met (map (effect m) ws)
+MetBy-prop code m met (overfull ws w) = λ x y. absurd x
+
+pub all_met : {E : Type 0} → Coded E → (m : Meaning E) (met : List E) → ∥ AllMet m met ∥₁ → AllMet m met
+all_met code m met t = go (met_lists (behaviour m)) refl (∥∥₁_elim t (MetBy-prop code m met (met_lists (behaviour m))) (λ all. subst (MetBy m met) (sym all.closed) all.effects))
+  where
+    go : (s : Survey (List ℕ)) → met_lists (behaviour m) ≡ s → MetBy m met s → AllMet m met
+    go (complete ws) e is = record { lists = ws; closed = e; effects = is }
+    go (overfull ws w) e is = absurd is
 
 -- ---- one more member of a set below i
 

@@ -25,82 +25,89 @@ impl EffectTable {
             return Err(EffectsFault::ShortSlice(slice.len()));
         }
         let count = register(rule, slice).ok_or(EffectsFault::TooMany)?;
-        Ok(table_of(rule, &slice[..count]))
+        let met = Met {
+            rule,
+            effects: &slice[..count],
+        };
+        Ok(met.table())
     }
 }
 
-/// The table of all effects that were met.
-fn table_of<R: OrderRule>(rule: &R, met: &[R::Effect]) -> EffectTable
-    requires { AllMet (R.OrderRule.meaning rule.now) met.now }
-    ensures { view result ≡ effects_table (R.OrderRule.meaning rule.now) met.now }
-{
-    EffectTable {
-        numbers: number_commands(rule, met),
-        joins: join_all(rule, met),
-        breaking: breaking_set(rule, met),
-    }
+/// A rule, and all effects that it has: the number of an effect is its place among them.
+#[derive(Drop)]
+struct Met<'a, R: OrderRule> {
+    rule: &'a R,
+    effects: &'a [R::Effect],
+    ghost all: { ∥ AllMet (R.OrderRule.meaning rule.now) effects.now ∥₁ },
 }
 
-/// The number of an effect that was met.
-fn number_of<R: OrderRule>(rule: &R, met: &[R::Effect], e: R::Effect) -> EffectNumber
-    requires all { AllMet (R.OrderRule.meaning rule.now) met.now }
-    requires own { (R.OrderRule.meaning rule.now).own e }
-    requires known { IsSome (place (R.OrderRule.meaning rule.now).same 0 met.now e) }
-    ensures { result ≡ numbered (R.OrderRule.meaning rule.now).same met.now e }
-{
-    find(rule, met, e).unwrap() as EffectNumber
-}
-
-fn number_commands<R: OrderRule>(rule: &R, met: &[R::Effect]) -> Bounded<EffectNumber, 16>
-    requires { AllMet (R.OrderRule.meaning rule.now) met.now }
-    ensures { items result ≡ (effects_table (R.OrderRule.meaning rule.now) met.now).numbers }
-{
-    let mut numbers = Bounded::empty(0);
-    for c in 0..rule.commands() {
-        let effect = rule.command(c).unwrap();
-        numbers.push(number_of(rule, met, effect)).unwrap();
-    }
-    numbers
-}
-
-/// The numbers of `a` joined with each effect.
-fn join_each<R: OrderRule>(rule: &R, met: &[R::Effect], a: R::Effect) -> Row
-    requires all { AllMet (R.OrderRule.meaning rule.now) met.now }
-    requires known { IsSome (place (R.OrderRule.meaning rule.now).same 0 met.now a) }
-    requires own { (R.OrderRule.meaning rule.now).own a }
-    ensures { items result ≡ join_row (R.OrderRule.meaning rule.now).same (R.OrderRule.meaning rule.now).join met.now a }
-{
-    let mut row = Bounded::empty(0);
-    for b in met {
-        row.push(number_of(rule, met, rule.join(a, *b))).unwrap();
-    }
-    row
-}
-
-/// A row for each effect.
-fn join_all<R: OrderRule>(rule: &R, met: &[R::Effect]) -> Bounded<Row, MOST_EFFECTS>
-    requires { AllMet (R.OrderRule.meaning rule.now) met.now }
-    ensures { map items (items result) ≡ (effects_table (R.OrderRule.meaning rule.now) met.now).joins }
-{
-    let mut joins = Bounded::empty(Bounded::empty(0));
-    for a in met {
-        joins.push(join_each(rule, met, *a)).unwrap();
-    }
-    joins
-}
-
-/// The numbers of the effects that break the rule.
-// Winning sets have a like loop, `effects_where`. One for both would be public and ask
-// that its test may be called, and no public function here asks anything of its callers.
-fn breaking_set<R: OrderRule>(rule: &R, met: &[R::Effect]) -> EffectSet
-    requires { AllMet (R.OrderRule.meaning rule.now) met.now }
-    ensures { result ≡ (effects_table (R.OrderRule.meaning rule.now) met.now).breaking }
-{
-    let mut breaking = EffectSet::empty();
-    for (i, e) in met.iter().enumerate() {
-        if rule.breaks(*e) {
-            breaking = breaking.with(i as EffectNumber);
+impl<R: OrderRule> Met<'_, R> {
+    fn table(&self) -> EffectTable
+        ensures { view result ≡ effects_table (R.OrderRule.meaning self.now.rule.now) self.now.effects.now }
+    {
+        EffectTable {
+            numbers: self.number_commands(),
+            joins: self.join_all(),
+            breaking: self.breaking_set(),
         }
     }
-    breaking
+
+    /// The number of an effect that was met.
+    fn number_of(&self, e: R::Effect) -> EffectNumber
+        requires own { (R.OrderRule.meaning self.now.rule.now).own e }
+        requires known { IsSome (place (R.OrderRule.meaning self.now.rule.now).same 0 self.now.effects.now e) }
+        ensures { result ≡ numbered (R.OrderRule.meaning self.now.rule.now).same self.now.effects.now e }
+    {
+        find(self.rule, self.effects, e).unwrap() as EffectNumber
+    }
+
+    fn number_commands(&self) -> Bounded<EffectNumber, 16>
+        ensures { items result ≡ (effects_table (R.OrderRule.meaning self.now.rule.now) self.now.effects.now).numbers }
+    {
+        let mut numbers = Bounded::empty(0);
+        for c in 0..self.rule.commands() {
+            let effect = self.rule.command(c).unwrap();
+            numbers.push(self.number_of(effect)).unwrap();
+        }
+        numbers
+    }
+
+    /// The numbers of `a` joined with each effect.
+    fn join_each(&self, a: R::Effect) -> Row
+        requires known { IsSome (place (R.OrderRule.meaning self.now.rule.now).same 0 self.now.effects.now a) }
+        requires own { (R.OrderRule.meaning self.now.rule.now).own a }
+        ensures { items result ≡ join_row (R.OrderRule.meaning self.now.rule.now).same (R.OrderRule.meaning self.now.rule.now).join self.now.effects.now a }
+    {
+        let mut row = Bounded::empty(0);
+        for b in self.effects {
+            row.push(self.number_of(self.rule.join(a, *b))).unwrap();
+        }
+        row
+    }
+
+    /// A row for each effect.
+    fn join_all(&self) -> Bounded<Row, MOST_EFFECTS>
+        ensures { map items (items result) ≡ (effects_table (R.OrderRule.meaning self.now.rule.now) self.now.effects.now).joins }
+    {
+        let mut joins = Bounded::empty(Bounded::empty(0));
+        for a in self.effects {
+            joins.push(self.join_each(*a)).unwrap();
+        }
+        joins
+    }
+
+    /// The numbers of the effects that break the rule.
+    // Winning sets have a like loop, `effects_where`. One for both would be public and ask that its test may
+    // be called, and no public function here asks anything of its callers.
+    fn breaking_set(&self) -> EffectSet
+        ensures { result ≡ (effects_table (R.OrderRule.meaning self.now.rule.now) self.now.effects.now).breaking }
+    {
+        let mut breaking = EffectSet::empty();
+        for (i, e) in self.effects.iter().enumerate() {
+            if self.rule.breaks(*e) {
+                breaking = breaking.with(i as EffectNumber);
+            }
+        }
+        breaking
+    }
 }

@@ -17,10 +17,12 @@ returns-in_err-count g c =
       numbers = subst (Surveyed m c.args.slice.now c.register.new.slice) (sym e) (c.if-slice-lt-MOST_EFFECTS.false, r.exceeds);
     }
 
-pub table_of-requires : goal.table_of-requires
-table_of-requires g c =
-    (counted_is (g.R.OrderRule.meaning c.args.rule.now) (g.met.R.OrderRule.lawful c.args.rule.now) c.args.slice.now c.register.new.slice c.if-slice-lt-MOST_EFFECTS.false c.register.ensures.slice
-    c.in_ok-count.count (sym c.in_ok-count.ensures.ok_part ∙ c.register.ensures.count)).part
+pub invariant_of-met : goal.invariant_of-met
+invariant_of-met g c =
+    let counted =
+    counted_is (g.R.OrderRule.meaning c.args.rule.now) (g.met.R.OrderRule.lawful c.args.rule.now) c.args.slice.now c.register.new.slice c.if-slice-lt-MOST_EFFECTS.false c.register.ensures.slice
+    c.in_ok-count.count (sym c.in_ok-count.ensures.ok_part ∙ c.register.ensures.count) in
+    record { all = ∣ counted.part ∣₁ }
 
 pub returns : goal.returns
 returns g c =
@@ -28,7 +30,7 @@ returns g c =
     let k = counted_is m (g.met.R.OrderRule.lawful c.args.rule.now) c.args.slice.now c.register.new.slice c.if-slice-lt-MOST_EFFECTS.false c.register.ensures.slice
     c.in_ok-count.count (sym c.in_ok-count.ensures.ok_part ∙ c.register.ensures.count) in
     record {
-      value = ap Ok c.table_of.ensures ∙ k.answer;
+      value = ap Ok c.table.ensures ∙ k.answer;
       slice = k.slice;
-      numbers = (c.if-slice-lt-MOST_EFFECTS.false, subst (λ t. Numbered m t c.args.slice.now c.register.new.slice) (sym c.table_of.ensures) k.numbered);
+      numbers = (c.if-slice-lt-MOST_EFFECTS.false, subst (λ t. Numbered m t c.args.slice.now c.register.new.slice) (sym c.table.ensures) k.numbered);
     }
