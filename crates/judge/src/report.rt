@@ -46,6 +46,8 @@ impl fmt::Display for Row {
 pub struct Report {
     effects: usize,
     rounds: u32,
+    // One for each procedure: a const argument cannot be computed from `PROCEDURES`. It is no `Vec`, since what
+    // `examine` refuses is what the files say, and it cannot want memory.
     rows: Bounded<Row, 32>,
 }
 
@@ -86,8 +88,7 @@ pub fn examine(chart: &[u8], procs: Option<&[u8]>) -> Result<Option<Report>, Jud
     }))
 }
 
-/// A row for each procedure with a record, in rising number. They are pushed onto a list in the value: a
-/// `Vec` could want memory, and what `examine` refuses is what the files say, and nothing else.
+/// A row for each procedure with a record, in rising number.
 fn rows(set: &ProcedureSet, solution: &Solution) -> Bounded<Row, 32>
     ensures { items result ≡ rows_of (entries set.now) (settled_of solution.now).formulas }
 {
