@@ -6,7 +6,7 @@ use std::fmt::Display;
 
 /// Writes the items of an iterator that ends, and nothing where it has none.
 pub(crate) fn write_list<I: Iterator, W: fmt::Write>(
-    items: I,
+    mut items: I,
     f: &mut fmt::Formatter<W>,
 ) -> fmt::Result
 where
@@ -14,11 +14,12 @@ where
     requires can { I.can_next items }
     requires finite { IsFinite (I.remaining items) }
 {
-    let mut first = true;
+    let Some(first) = items.next() else {
+        return Ok(());
+    };
+    write!(f, "{first}")?;
     for item in items {
-        let comma = if first { "" } else { "," };
-        write!(f, "{comma}{item}")?;
-        first = false;
+        write!(f, ",{item}")?;
     }
     Ok(())
 }

@@ -109,6 +109,7 @@ impl fmt::Display for SolveOutcome {
 }
 
 /// The formula of each procedure that has a record, by number.
+// No plainer by `write_list`: a number with its formula would need a type and a `Display` of its own.
 fn write_formulas<W: fmt::Write>(
     set: &ProcedureSet,
     solution: &Solution,
