@@ -22,6 +22,7 @@ pub enum Outcome {
 
 impl Case {
     /// Reads a case from a line. The line of a table's case begins with its shape.
+    // No `FromStr`: what a case holds is kept on the heap, and `from_str` is given none.
     pub fn read(heap: Global, line: &str) -> Result<Case, Fault> {
         let mut words = Words::of(heap, line);
         let case = match words.word()? {

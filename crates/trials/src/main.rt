@@ -3,6 +3,7 @@
 
 mod case;
 mod fault;
+mod list;
 mod rule;
 mod solve_case;
 mod table_case;

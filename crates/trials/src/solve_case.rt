@@ -1,6 +1,7 @@
 //! The second kind of case, `solve SHAPE ALLOWANCE RECORDS FORM TARGET PART ..`: a procedure set is
 //! solved, and a form is looked at under its formulas.
 use crate::fault::Fault;
+use crate::list::write_list;
 use crate::rule::{MOST_EFFECTS, Shape, Trial};
 use crate::words::Words;
 use formulas::fault::Overflow;
@@ -100,7 +101,7 @@ impl fmt::Display for SolveOutcome {
         write_formulas(&self.set, &self.solution, f)?;
         write!(f, " form ")?;
         match &self.form {
-            Ok(formula) => write_clauses(formula, f)?,
+            Ok(formula) => write_list(formula.clauses().iter(), f)?,
             Err(_) => write!(f, "overflow")?,
         }
         write!(f, " wins {}", self.wins)
@@ -108,6 +109,7 @@ impl fmt::Display for SolveOutcome {
 }
 
 /// The formula of each procedure that has a record, by number.
+// No plainer by `write_list`: a number with its formula would need a type and a `Display` of its own.
 fn write_formulas<W: fmt::Write>(
     set: &ProcedureSet,
     solution: &Solution,
@@ -117,15 +119,7 @@ fn write_formulas<W: fmt::Write>(
     for (i, p) in recorded.enumerate() {
         let semicolon = if i == 0 { "" } else { ";" };
         write!(f, "{semicolon}{p}:")?;
-        write_clauses(&solution.formula(p), f)?;
-    }
-    Ok(())
-}
-
-fn write_clauses<W: fmt::Write>(formula: &Formula, f: &mut fmt::Formatter<W>) -> fmt::Result {
-    for (i, clause) in formula.clauses().iter().enumerate() {
-        let comma = if i == 0 { "" } else { "," };
-        write!(f, "{comma}{clause}")?;
+        write_list(solution.formula(p).clauses().iter(), f)?;
     }
     Ok(())
 }

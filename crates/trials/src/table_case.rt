@@ -1,5 +1,6 @@
 //! The first kind of case, `SHAPE ROOM LIST PART ..`: a list is judged, and the effects are numbered.
 use crate::fault::Fault;
+use crate::list::write_list;
 use crate::rule::{MOST_EFFECTS, Shape, Trial};
 use crate::words::Words;
 use foundation::refusal::Refusal;
@@ -80,17 +81,9 @@ fn write_table<W: fmt::Write>(table: &EffectTable, f: &mut fmt::Formatter<W>) ->
         table.commands()
     )?;
     write!(f, "breaking {} numbers ", table.breaking())?;
-    write_numbers(table, f)?;
-    write!(f, " joins {}", join_checksum(table))
-}
-
-fn write_numbers<W: fmt::Write>(table: &EffectTable, f: &mut fmt::Formatter<W>) -> fmt::Result {
     let numbers = (0..table.commands()).filter_map(|c| table.command(c));
-    for (i, number) in numbers.enumerate() {
-        let comma = if i == 0 { "" } else { "," };
-        write!(f, "{comma}{number}")?;
-    }
-    Ok(())
+    write_list(numbers, f)?;
+    write!(f, " joins {}", join_checksum(table))
 }
 
 /// One number for all joins, row by row. A number that is no effect's has no join.

@@ -1,5 +1,6 @@
 //! Charts: what they permit, their effects and their refusals.
-use crate::expect::{check_effects, check_refused, made, rule};
+use crate::expect::{check_effects, check_refused, made, told};
+use foundation::refusal::Layer;
 use rules::chart::Chart;
 use rules::fault::RuleFault;
 use rules::lists::{Judgement, judge};
@@ -77,7 +78,11 @@ fn permits_the_empty_list_alone_without_arrows(rt: HostRuntime) -> Result<(), Fa
 fn refuses_a_length(rt: HostRuntime) -> Result<(), Fail> {
     for (len, place) in [(11, 0), (13, 1), (12_289, 1024), (12_300, 1025)] {
         let bytes = vec![in rt.alloc(); 255; len]?;
-        check_refused(&rt, Chart::new(bytes.as_slice()), rule(place))?;
+        check_refused(
+            &rt,
+            Chart::new(bytes.as_slice()),
+            told(5, Layer::Rule, place),
+        )?;
     }
     Ok(())
 }
@@ -95,10 +100,26 @@ fn accepts_1024_records(rt: HostRuntime) -> Result<(), Fail> {
 #[test]
 fn refuses_the_first_broken_record(rt: HostRuntime) -> Result<(), Fail> {
     let (good, broken) = (arrow(0, 0, 1), arrow(8, 0, 1));
-    check_refused(&rt, draw(rt.alloc(), &[broken, good, good])?, rule(0))?;
-    check_refused(&rt, draw(rt.alloc(), &[good, broken, good])?, rule(1))?;
-    check_refused(&rt, draw(rt.alloc(), &[good, good, broken])?, rule(2))?;
-    check_refused(&rt, draw(rt.alloc(), &[good, broken, broken])?, rule(1))
+    check_refused(
+        &rt,
+        draw(rt.alloc(), &[broken, good, good])?,
+        told(5, Layer::Rule, 0),
+    )?;
+    check_refused(
+        &rt,
+        draw(rt.alloc(), &[good, broken, good])?,
+        told(5, Layer::Rule, 1),
+    )?;
+    check_refused(
+        &rt,
+        draw(rt.alloc(), &[good, good, broken])?,
+        told(5, Layer::Rule, 2),
+    )?;
+    check_refused(
+        &rt,
+        draw(rt.alloc(), &[good, broken, broken])?,
+        told(5, Layer::Rule, 1),
+    )
 }
 
 #[test]
@@ -112,7 +133,11 @@ fn refuses_numbers_out_of_range(rt: HostRuntime) -> Result<(), Fail> {
         arrow(0, 0, 8),
         final_state(8),
     ] {
-        check_refused(&rt, draw(rt.alloc(), &[final_state(0), broken])?, rule(1))?;
+        check_refused(
+            &rt,
+            draw(rt.alloc(), &[final_state(0), broken])?,
+            told(5, Layer::Rule, 1),
+        )?;
     }
     let _ = made(draw(rt.alloc(), &[final_state(7), arrow(7, 15, 7)])?)?;
     Ok(())
@@ -123,12 +148,12 @@ fn refuses_other_fillers(rt: HostRuntime) -> Result<(), Fail> {
     for at in 4..12 {
         let mut record = arrow(0, 0, 1);
         record[at] = 254;
-        check_refused(&rt, Chart::new(&record), rule(0))?;
+        check_refused(&rt, Chart::new(&record), told(5, Layer::Rule, 0))?;
     }
     for at in 2..12 {
         let mut record = final_state(0);
         record[at] = 0;
-        check_refused(&rt, Chart::new(&record), rule(0))?;
+        check_refused(&rt, Chart::new(&record), told(5, Layer::Rule, 0))?;
     }
     Ok(())
 }

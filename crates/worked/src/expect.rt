@@ -29,27 +29,8 @@ pub fn check_refused<T: Drop, F: Into<Refusal>>(
     Ok(())
 }
 
-/// How a rule is refused.
-pub fn rule(place: usize) -> Refusal {
-    told(5, Layer::Rule, place)
-}
-
-/// How the effects of a rule are refused.
-pub fn effects(number: u8, place: usize) -> Refusal {
-    told(number, Layer::Effects, place)
-}
-
-/// How records are refused.
-pub fn records(number: u8, place: usize) -> Refusal {
-    told(number, Layer::Records, place)
-}
-
-/// How a solve is refused.
-pub fn solve(number: u8, place: usize) -> Refusal {
-    told(number, Layer::Solve, place)
-}
-
-fn told(number: u8, layer: Layer, place: usize) -> Refusal {
+/// How a refusal is told.
+pub fn told(number: u8, layer: Layer, place: usize) -> Refusal {
     Refusal {
         number,
         layer,

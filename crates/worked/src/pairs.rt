@@ -1,5 +1,6 @@
 //! Pairs: what they permit and their effects.
-use crate::expect::{check_refused, effects, made, table_of};
+use crate::expect::{check_refused, made, table_of, told};
+use foundation::refusal::Layer;
 use rules::count::Count;
 use rules::lists::{Judgement, judge};
 use rules::pair::Pair;
@@ -45,7 +46,11 @@ fn has_63_effects_of_7_and_9(rt: HostRuntime) -> Result<(), Fail> {
 fn has_too_many_effects_of_8_and_9(rt: HostRuntime) -> Result<(), Fail> {
     let pair = Pair::new(multiples(8)?, multiples(9)?);
     let mut slice = [(255, 255); 64];
-    check_refused(&rt, EffectTable::of(&pair, &mut slice), effects(6, 64))?;
+    check_refused(
+        &rt,
+        EffectTable::of(&pair, &mut slice),
+        told(6, Layer::Effects, 64),
+    )?;
     for (effect, len) in slice.iter().zip(0..64u8) {
         assert_eq!(rt; *effect, (len % 8, len % 9));
     }

@@ -1,5 +1,7 @@
 //! Procedure sets: how they are read, their formulas and winning sets, and the refusals.
-use crate::expect::{check_refused, made, records, solve, table_of};
+ghost use Rattle.std.specs.Prelude.{◌≤◌, length};
+
+use crate::expect::{check_refused, made, table_of, told};
 use formulas::fault::RecordsFault;
 use formulas::formula::Formula;
 use formulas::procedure_set::ProcedureSet;
@@ -7,6 +9,7 @@ use formulas::solution::Solution;
 use formulas::symbol::Symbol;
 use formulas::winning_set::winning_set;
 use foundation::effect_set::EffectSet;
+use foundation::refusal::Layer;
 use rules::count::Count;
 use rules::table::EffectTable;
 use std::alloc::{AllocError, Global};
@@ -32,22 +35,15 @@ const P4: u8 = 36;
 
 const P5: u8 = 37;
 
-fn empty(procedure: u8, owner: u8) -> Record {
-    [
-        procedure, owner, 0, 255, 255, 255, 255, 255, 255, 255, 255, 255,
-    ]
-}
-
-fn one(procedure: u8, owner: u8, symbol: u8) -> Record {
-    [
-        procedure, owner, 1, symbol, 255, 255, 255, 255, 255, 255, 255, 255,
-    ]
-}
-
-fn two(procedure: u8, owner: u8, first: u8, second: u8) -> Record {
-    [
-        procedure, owner, 2, first, second, 255, 255, 255, 255, 255, 255, 255,
-    ]
+fn record(procedure: u8, owner: u8, symbols: &[u8]) -> Record
+    requires { length symbols.now ≤ 9 }
+{
+    let mut bytes = [255; 12];
+    bytes[0] = procedure;
+    bytes[1] = owner;
+    bytes[2] = symbols.len() as u8;
+    bytes[3..3 + symbols.len()].copy_from_slice(symbols);
+    bytes
 }
 
 fn read(
@@ -65,17 +61,17 @@ fn threes(heap: Global) -> Result<EffectTable, Fail> {
 
 fn six_procedures(heap: Global) -> Result<ProcedureSet, Fail> {
     let records = [
-        one(0, FIELD, 0),
-        two(0, FIELD, 0, P1),
-        empty(1, STATION),
-        two(1, STATION, 0, 0),
-        two(2, FIELD, 0, P2),
-        one(3, STATION, P3),
-        one(3, STATION, 0),
-        one(4, FIELD, P4),
-        one(4, FIELD, 0),
-        two(5, FIELD, 0, P5),
-        empty(5, FIELD),
+        record(0, FIELD, &[0]),
+        record(0, FIELD, &[0, P1]),
+        record(1, STATION, &[]),
+        record(1, STATION, &[0, 0]),
+        record(2, FIELD, &[0, P2]),
+        record(3, STATION, &[P3]),
+        record(3, STATION, &[0]),
+        record(4, FIELD, &[P4]),
+        record(4, FIELD, &[0]),
+        record(5, FIELD, &[0, P5]),
+        record(5, FIELD, &[]),
     ];
     made(read(heap, &records)?)
 }
@@ -114,7 +110,11 @@ fn solves_six_procedures(rt: HostRuntime) -> Result<(), Fail> {
 fn settles_six_procedures_in_round_four(rt: HostRuntime) -> Result<(), Fail> {
     let set = six_procedures(rt.alloc())?;
     let table = threes(rt.alloc())?;
-    check_refused(&rt, Solution::of(&set, &table, 3), solve(12, 3))?;
+    check_refused(
+        &rt,
+        Solution::of(&set, &table, 3),
+        told(12, Layer::Solve, 3),
+    )?;
     assert_eq!(rt; made(Solution::of(&set, &table, 4))?.round(), 4);
     Ok(())
 }
@@ -156,9 +156,9 @@ fn wins_from_these_counts(rt: HostRuntime) -> Result<(), Fail> {
 
 /// The station has P0 do one of the commands 0 to 7 and P1 one of 8 to 15, the field takes P0 or P1.
 fn eight_by_eight(heap: Global) -> Result<Vec<Record>, Fail> {
-    let low = (0..8).map(|c| one(0, STATION, c));
-    let high = (8..16).map(|c| one(1, STATION, c));
-    let choices = [one(2, FIELD, P0), one(2, FIELD, P1)];
+    let low = (0..8).map(|c| record(0, STATION, &[c]));
+    let high = (8..16).map(|c| record(1, STATION, &[c]));
+    let choices = [record(2, FIELD, &[P0]), record(2, FIELD, &[P1])];
     Ok(low.chain(high).chain(choices).collect(heap)?)
 }
 
@@ -192,12 +192,12 @@ fn has_64_clauses(rt: HostRuntime) -> Result<(), Fail> {
 fn refuses_a_65th_clause(rt: HostRuntime) -> Result<(), Fail> {
     let heap = rt.alloc();
     let mut records = eight_by_eight(heap)?;
-    records.push(two(1, STATION, 15, 1))?;
+    records.push(record(1, STATION, &[15, 1]))?;
     let set = made(read(heap, records.as_slice())?)?;
     check_refused(
         &rt,
         Solution::of(&set, &sixteen_weights(heap)?, 3),
-        solve(11, 2),
+        told(11, Layer::Solve, 2),
     )
 }
 
@@ -206,9 +206,13 @@ fn refuses_a_65th_clause(rt: HostRuntime) -> Result<(), Fail> {
 fn refuses_no_whole_records_and_too_many(rt: HostRuntime) -> Result<(), Fail> {
     for (len, place) in [(0, 0), (11, 0), (13, 1), (1537, 128), (1548, 129)] {
         let bytes = vec![in rt.alloc(); 255; len]?;
-        check_refused(&rt, ProcedureSet::read(bytes.as_slice()), records(1, place))?;
+        check_refused(
+            &rt,
+            ProcedureSet::read(bytes.as_slice()),
+            told(1, Layer::Records, place),
+        )?;
     }
-    let bytes = empty(0, STATION).repeat(rt.alloc(), 128)?;
+    let bytes = record(0, STATION, &[]).repeat(rt.alloc(), 128)?;
     assert_eq!(rt; made(ProcedureSet::read(bytes.as_slice()))?.len(), 128);
     Ok(())
 }
@@ -216,7 +220,7 @@ fn refuses_no_whole_records_and_too_many(rt: HostRuntime) -> Result<(), Fail> {
 /// Each record is broken in one place alone.
 #[test]
 fn refuses_broken_records(rt: HostRuntime) -> Result<(), Fail> {
-    let good = two(31, FIELD, 15, 63);
+    let good = record(31, FIELD, &[15, 63]);
     for (at, byte) in [
         (0, 32),
         (1, 2),
@@ -233,7 +237,7 @@ fn refuses_broken_records(rt: HostRuntime) -> Result<(), Fail> {
         check_refused(
             &rt,
             read(rt.alloc(), &[good, broken, broken])?,
-            records(2, 1),
+            told(2, Layer::Records, 1),
         )?;
     }
     assert_eq!(rt; made(read(rt.alloc(), &[good])?)?.len(), 1);
@@ -245,31 +249,55 @@ fn refuses_broken_records(rt: HostRuntime) -> Result<(), Fail> {
 #[test]
 fn refuses_records_in_order(rt: HostRuntime) -> Result<(), Fail> {
     let heap = rt.alloc();
-    let broken = empty(32, FIELD);
-    let (ours, theirs) = (empty(1, STATION), empty(1, FIELD));
-    let stray = one(0, FIELD, P2);
+    let broken = record(32, FIELD, &[]);
+    let (ours, theirs) = (record(1, STATION, &[]), record(1, FIELD, &[]));
+    let stray = record(0, FIELD, &[P2]);
     check_refused(
         &rt,
         read(heap, &[stray, ours, theirs, broken])?,
-        records(2, 3),
+        told(2, Layer::Records, 3),
     )?;
     check_refused(
         &rt,
         read(heap, &[stray, ours, theirs, ours])?,
-        records(3, 2),
+        told(3, Layer::Records, 2),
     )?;
-    check_refused(&rt, read(heap, &[theirs, ours, stray])?, records(3, 1))?;
-    check_refused(&rt, read(heap, &[ours, ours, stray, stray])?, records(4, 2))
+    check_refused(
+        &rt,
+        read(heap, &[theirs, ours, stray])?,
+        told(3, Layer::Records, 1),
+    )?;
+    check_refused(
+        &rt,
+        read(heap, &[ours, ours, stray, stray])?,
+        told(4, Layer::Records, 2),
+    )
 }
 
 /// The allowance is looked at first.
 #[test]
 fn refuses_an_allowance_and_then_a_command(rt: HostRuntime) -> Result<(), Fail> {
     let table = threes(rt.alloc())?;
-    let records = [empty(0, FIELD), two(0, FIELD, 0, 1), one(0, FIELD, 1)];
+    let records = [
+        record(0, FIELD, &[]),
+        record(0, FIELD, &[0, 1]),
+        record(0, FIELD, &[1]),
+    ];
     let set = made(read(rt.alloc(), &records)?)?;
-    check_refused(&rt, Solution::of(&set, &table, 0), solve(8, 0))?;
-    check_refused(&rt, Solution::of(&set, &table, 1001), solve(8, 0))?;
-    check_refused(&rt, Solution::of(&set, &table, 1), solve(10, 1))?;
-    check_refused(&rt, Solution::of(&set, &table, 1000), solve(10, 1))
+    check_refused(&rt, Solution::of(&set, &table, 0), told(8, Layer::Solve, 0))?;
+    check_refused(
+        &rt,
+        Solution::of(&set, &table, 1001),
+        told(8, Layer::Solve, 0),
+    )?;
+    check_refused(
+        &rt,
+        Solution::of(&set, &table, 1),
+        told(10, Layer::Solve, 1),
+    )?;
+    check_refused(
+        &rt,
+        Solution::of(&set, &table, 1000),
+        told(10, Layer::Solve, 1),
+    )
 }

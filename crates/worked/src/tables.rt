@@ -1,5 +1,6 @@
 //! Effect tables: what they answer, and what becomes of the slice.
-use crate::expect::{check_refused, effects, made, refusal, table_of};
+use crate::expect::{check_refused, made, refusal, table_of, told};
+use foundation::refusal::Layer;
 use rules::count::Count;
 use rules::pair::Pair;
 use rules::rule::OrderRule;
@@ -40,7 +41,11 @@ fn numbers_effects_as_they_are_met(rt: HostRuntime) -> Result<(), Fail> {
 fn refuses_a_short_slice_and_keeps_it(rt: HostRuntime) -> Result<(), Fail> {
     let count = made(Count::new(3, &[1], 1))?;
     let mut slice = [200; 63];
-    check_refused(&rt, EffectTable::of(&count, &mut slice), effects(7, 63))?;
+    check_refused(
+        &rt,
+        EffectTable::of(&count, &mut slice),
+        told(7, Layer::Effects, 63),
+    )?;
     assert_eq!(rt; slice, [200; 63]);
     Ok(())
 }

@@ -7,6 +7,7 @@ use std::alloc::Global;
 
 impl Shape {
     /// Reads the parts of the named shape.
+    // No `FromStr`: the parts are the next words of the line, and `from_str` is given one text.
     pub fn read(name: &str, words: &mut Words<'_>) -> Result<Shape, Fault> {
         let shape = match name {
             "chart" => Shape::Chart(chart(words)?),
