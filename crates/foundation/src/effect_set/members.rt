@@ -1,5 +1,5 @@
 //! The members of a set, one by one.
-ghost use Rattle.std.specs.Prelude.{◌≡◌, ℕ};
+ghost use Rattle.std.specs.Prelude.{◌≡◌, ℕ, length, Some};
 ghost use Rattle.std.specs.Iterator.{YieldsFirst, item_count};
 ghost use Rattle.std.specs.Iterator.Runs.{YieldsInOrder};
 ghost use Rattle.foundation.specs.Sets.{members};
@@ -34,7 +34,10 @@ impl Iterator for Members {
         Some(member)
     }
 
-    fn size_hint(&self) -> (usize, Option<usize>) {
+    /// Exactly as many as there are.
+    fn size_hint(&self) -> (usize, Option<usize>)
+        ensures exact { result ≡ (length (members self.now), Some (length (members self.now))) }
+    {
         let len = self.rest.len() as usize;
         (len, Some(len))
     }
