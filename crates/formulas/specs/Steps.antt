@@ -2,7 +2,7 @@
 use Rattle.std.specs.Prelude.{Ok, Err, Option, Result}
 use Rattle.std.specs.Option.{option_and_then}
 
--- the next step, where there is a value so far
+-- the next step, where there is a value so far: the library's `option_and_then`, with the value first as steps are read
 abbrev pub bind : {X Y : Type 0} → Option X → (X → Option Y) → Option Y
 bind o f = option_and_then f o
 

@@ -20,6 +20,9 @@ use std::fmt;
 /// refused as unsettled only where nobody could have it solved.
 const ALLOWANCE: u32 = MOST_ROUNDS;
 
+/// One for each procedure.
+const MOST_ROWS: usize = PROCEDURES as usize;
+
 /// What is told of one procedure.
 #[derive(Clone, Copy)]
 pub struct Row {
@@ -46,9 +49,8 @@ impl fmt::Display for Row {
 pub struct Report {
     effects: usize,
     rounds: u32,
-    // One for each procedure: a const argument cannot be computed from `PROCEDURES`. It is no `Vec`, since what
-    // `examine` refuses is what the files say, and it cannot want memory.
-    rows: Bounded<Row, 32>,
+    // No `Vec`: what `examine` refuses is what the files say, so that it may not want memory.
+    rows: Bounded<Row, MOST_ROWS>,
 }
 
 impl Report {
@@ -89,10 +91,10 @@ pub fn examine(chart: &[u8], procs: Option<&[u8]>) -> Result<Option<Report>, Jud
 }
 
 /// A row for each procedure with a record, in rising number.
-fn rows(set: &ProcedureSet, solution: &Solution) -> Bounded<Row, 32>
+fn rows(set: &ProcedureSet, solution: &Solution) -> Bounded<Row, MOST_ROWS>
     ensures { items result ≡ rows_of (entries set.now) (settled_of solution.now).formulas }
 {
-    let mut told = Bounded::<Row, 32>::empty(Row {
+    let mut told = Bounded::<Row, MOST_ROWS>::empty(Row {
         procedure: 0,
         owner: Owner::Station,
         clauses: 0,

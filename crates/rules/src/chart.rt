@@ -3,7 +3,7 @@ ghost use Rattle.std.specs.Prelude.{◌≡◌, ℕ, ◌^◌, ◌<◌, slice_inde
 ghost use Rattle.foundation.specs.Bits.{has};
 ghost use Rattle.rules.specs.Boxes.{through, composed, accepting};
 
-use crate::rule::{Command, OrderRule};
+use crate::rule::{Command, MOST_COMMANDS, OrderRule};
 
 mod making;
 
@@ -16,7 +16,7 @@ const IDENTITY: BoxWord = 0x8040_2010_0804_0201;
 #[derive(Clone, Copy)]
 pub struct Chart {
     /// The box of each command.
-    boxes: [BoxWord; 16],
+    boxes: [BoxWord; MOST_COMMANDS],
     finals: [bool; 8],
     ghost boxed: { (c : ℕ) → c < 16 → slice_index boxes c < 2 ^ 64 },
 }
@@ -58,7 +58,7 @@ impl OrderRule for Chart {
     ghost lawful = { chart_lawful };
 
     fn commands(&self) -> u8 {
-        16
+        MOST_COMMANDS as Command
     }
 
     fn command(&self, c: Command) -> Option<BoxWord> {

@@ -3,7 +3,7 @@ ghost use Rattle.std.specs.Prelude.{◌≤◌, length};
 ghost use Rattle.foundation.specs.Bounds.{items};
 ghost use Rattle.rules.specs.Counting.{Modular, Residues};
 
-use crate::rule::{Command, OrderRule};
+use crate::rule::{Command, MOST_COMMANDS, OrderRule};
 use foundation::bounded::Bounded;
 
 mod making;
@@ -14,7 +14,7 @@ pub type Residue = u8;
 #[derive(Drop)]
 pub struct Count {
     modulus: u8,
-    weights: Bounded<u8, 16>,
+    weights: Bounded<u8, MOST_COMMANDS>,
     /// Bit k is set for a permitted residue k.
     permitted: u64,
     ghost modular: { Modular modulus },

@@ -2,6 +2,7 @@
 ghost use Rattle.std.specs.Prelude.{◌≡◌};
 ghost use Rattle.rules.specs.Refusals.{rule_refusal, effects_refusal};
 
+use crate::table::MOST_EFFECTS;
 use foundation::refusal::{Layer, Refusal};
 
 /// Why a rule was not made.
@@ -55,7 +56,7 @@ impl From<EffectsFault> for Refusal {
 
     fn from(fault: EffectsFault) -> Refusal {
         let (number, place) = match fault {
-            EffectsFault::TooMany => (6, 64),
+            EffectsFault::TooMany => (6, MOST_EFFECTS),
             EffectsFault::ShortSlice(entries) => (7, entries),
         };
         Refusal {

@@ -5,6 +5,9 @@ ghost use Rattle.rules.specs.Meaning.{Meaning, Lawful};
 /// The number of a command; a rule has the commands below its own count.
 pub type Command = u8;
 
+/// How many commands a rule has at most.
+pub const MOST_COMMANDS: usize = 16;
+
 /// A rule about the order of commands, by the effects that lists of commands have.
 ///
 /// Each implementation says its meaning and shows that the laws hold of it. On effects of its

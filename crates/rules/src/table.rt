@@ -3,6 +3,7 @@ ghost use Rattle.std.specs.Prelude.{◌≤◌, length};
 ghost use Rattle.foundation.specs.Bounds.{items};
 ghost use Rattle.rules.specs.Views.{table_from, NumbersSome, Square};
 
+use crate::rule::MOST_COMMANDS;
 use foundation::bounded::Bounded;
 use foundation::effect_set::{EffectNumber, EffectSet};
 
@@ -18,7 +19,7 @@ type Row = Bounded<EffectNumber, MOST_EFFECTS>;
 #[derive(Drop)]
 pub struct EffectTable {
     /// The number of each command's effect.
-    numbers: Bounded<EffectNumber, 16>,
+    numbers: Bounded<EffectNumber, MOST_COMMANDS>,
     /// A row for each effect.
     joins: Bounded<Row, MOST_EFFECTS>,
     breaking: EffectSet,

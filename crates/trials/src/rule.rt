@@ -11,7 +11,7 @@ use std::alloc::Global;
 mod reading;
 
 /// A table has at most so many effects, and a set of effects so many places.
-pub const MOST_EFFECTS: EffectNumber = 64;
+pub const MOST_EFFECTS: EffectNumber = rules::table::MOST_EFFECTS as EffectNumber;
 
 /// What a chart is made from.
 #[derive(Drop)]

@@ -40,6 +40,7 @@ pub struct SolveOutcome {
 
 impl SolveCase {
     /// Reads what comes after the word that names the kind.
+    // No `FromStr`, as at `Shape::read`.
     pub fn read(words: &mut Words<'_>) -> Result<SolveCase, Fault> {
         let shape_name = words.word()?;
         let allowance = words.number::<u32>()?;

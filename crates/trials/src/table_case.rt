@@ -31,6 +31,7 @@ pub struct TableOutcome {
 
 impl TableCase {
     /// Reads what comes after the name of the shape.
+    // No `FromStr`, as at `Shape::read`.
     pub fn read(shape_name: &str, words: &mut Words<'_>) -> Result<TableCase, Fault> {
         let room = read_room(words)?;
         let list = words.numbers()?;

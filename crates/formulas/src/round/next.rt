@@ -38,7 +38,7 @@ impl Round {
         let mut formulas = [Formula::impossible(); PROCEDURES as usize];
         for (p, formula) in formulas.iter_mut().enumerate() {
             let p = p as Procedure;
-            // `map_err` and `?` were tried: the loop's proof would then have to cite names of the checker's own.
+            // `map_err` and `?` were tried, and the loop's proof did not close: it lacks what the slot lends back.
             let Ok(next) = self.next_formula(problem, p) else {
                 return Err(SolveFault::TooManyClauses(p));
             };

@@ -7,7 +7,9 @@ ghost use Rattle.rules.specs.contracts.chart.ChartOrderRule.TheImpl.{ghosts};
 
 use crate::chart::Chart;
 use crate::fault::RuleFault;
+use crate::rule::MOST_COMMANDS;
 
+/// That a procedure set's records have as many bytes is chance.
 const RECORD_LEN: usize = 12;
 
 const MOST_RECORDS: usize = 1024;
@@ -48,7 +50,7 @@ impl Chart {
             return Err(RuleFault::ChartLength(whole));
         }
         let mut chart = Chart {
-            boxes: [0; 16],
+            boxes: [0; MOST_COMMANDS],
             finals: [false; 8],
         };
         for (i, record) in bytes.chunks_exact(RECORD_LEN).enumerate() {

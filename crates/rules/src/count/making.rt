@@ -5,6 +5,7 @@ ghost use Rattle.rules.specs.contracts.count.CountOrderRule.TheImpl.{ghosts};
 
 use crate::count::Count;
 use crate::fault::RuleFault;
+use crate::rule::MOST_COMMANDS;
 use foundation::bounded::Bounded;
 
 impl Count {
@@ -15,7 +16,9 @@ impl Count {
         if modulus == 0 || modulus > 64 {
             return Err(RuleFault::Modulus);
         }
-        let kept = Bounded::<u8, 16>::from_slice(weights, 0).ok_or(RuleFault::WeightCount)?;
+        let kept = Bounded::<u8, MOST_COMMANDS>::from_slice(weights, 0).ok_or(
+            RuleFault::WeightCount,
+        )?;
         if weights.is_empty() {
             return Err(RuleFault::WeightCount);
         }

@@ -8,7 +8,7 @@ ghost use Rattle.rules.specs.Tables.{numbered, join_row, effects_table};
 
 use crate::fault::EffectsFault;
 use crate::register::{find, register};
-use crate::rule::OrderRule;
+use crate::rule::{MOST_COMMANDS, OrderRule};
 use crate::table::{EffectTable, MOST_EFFECTS, Row};
 use foundation::bounded::Bounded;
 use foundation::effect_set::{EffectNumber, EffectSet};
@@ -61,7 +61,7 @@ impl<R: OrderRule> Met<'_, R> {
         find(self.rule, self.effects, e).unwrap() as EffectNumber
     }
 
-    fn number_commands(&self) -> Bounded<EffectNumber, 16>
+    fn number_commands(&self) -> Bounded<EffectNumber, MOST_COMMANDS>
         ensures { items result ≡ (effects_table (R.OrderRule.meaning self.now.rule.now) self.now.effects.now).numbers }
     {
         let mut numbers = Bounded::empty(0);
