@@ -24,13 +24,13 @@ pub of_found : {X Y : Type 0} (f : X → Y) (o : Option X) (d x : X) (e : Y) →
 of_found f None d x e h k = ap f h ∙ k
 of_found f (Some y) d x e h k = ap f h
 
-drop_nth : {X : Type 0} (xs : List X) (i : ℕ) (x : X) → Some x ≡ slice_get xs i → drop i xs ≡ x ∷ drop (i + 1) xs
+pub drop_nth : {X : Type 0} (xs : List X) (i : ℕ) (x : X) → Some x ≡ slice_get xs i → drop i xs ≡ x ∷ drop (i + 1) xs
 drop_nth [] i x e = absurd (let z : ◌≡◌ {A = ℕ} 0 1 = cc in omega arith)
 drop_nth (y ∷ xs) zero x e = let z : x ≡ y = cc in ap (λ w. w ∷ xs) (sym z)
 drop_nth (y ∷ xs) (suc i) x e = let n : suc i + 1 ≡ suc (i + 1) = omega arith in rw n (drop_nth xs i x e)
 
 module _ (limit : ℕ) (t : Table) (L : List (List ℕ)) (rs : List Entry) (p : ℕ) where
-  next_is : (v : Option Owner) → v ≡ owner_of rs p → next_owned limit t L v (bodies rs p) ≡ next_formula limit t rs L p
+  pub next_is : (v : Option Owner) → v ≡ owner_of rs p → next_owned limit t L v (bodies rs p) ≡ next_formula limit t rs L p
   next_is v e = ap (λ o. next_owned limit t L o (bodies rs p)) e
 
   module _ (o : Owner) where

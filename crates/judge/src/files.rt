@@ -1,5 +1,6 @@
 //! Reading the front of a file.
-ghost use Rattle.std.specs.Prelude.{◌≤◌, IfSome, IfOk, vec_len};
+ghost use Rattle.std.specs.Prelude.{◌≡◌, ◌≤◌, length, take, IfSome, IfOk, vec_len, vec_items};
+ghost use Rattle.std.specs.Io.KnownBytes.{Consumes};
 
 use std::fs::File;
 use std::io;
@@ -13,18 +14,43 @@ pub fn read_front(rt: &HostRuntime, path: &str) -> io::Result<Option<Vec<u8>>>
     ensures { IfOk result (λ front. IfSome front (λ bytes. vec_len bytes ≤ 16384)) }
 {
     match File::open(rt, path) {
-        Ok(file) => front_of(rt, file).map(Some),
+        Ok(mut file) => front_of(rt, &mut file).map(Some),
         Err(e) if e.kind() == ErrorKind::NotFound => Ok(None),
         Err(e) => Err(e),
     }
 }
 
-fn front_of(rt: &HostRuntime, file: File) -> io::Result<Vec<u8>>
-    ensures { IfOk result (λ bytes. vec_len bytes ≤ 16384) }
+/// What is taken from the reader is what is handed on, and nothing besides; `read_to_end` on a `take` would
+/// not promise that.
+fn front_of<R: Read>(rt: &HostRuntime, reader: &mut R) -> io::Result<Vec<u8>>
+    ensures few { IfOk result (λ bytes. vec_len bytes ≤ 16384) }
+    ensures taken { IfOk result (λ bytes. Consumes (R.remaining reader.old) (R.remaining reader.new) (vec_items bytes)) }
 {
-    let mut bytes = Vec::new(rt.alloc());
-    file.take(MOST_BYTES as u64).read_to_end(&mut bytes)?;
-    // `read_to_end` does not promise to stay within what `take` leaves of the file.
-    bytes.truncate(MOST_BYTES);
+    let mut bytes = zeros(rt, MOST_BYTES)?;
+    let len = fill(reader, &mut bytes)?;
+    bytes.truncate(len);
     Ok(bytes)
+}
+
+/// A buffer. It stands apart, so that what is said of a front needs its length alone.
+fn zeros(rt: &HostRuntime, len: usize) -> io::Result<Vec<u8>>
+    ensures { IfOk result (λ bytes. vec_len bytes ≡ len) }
+{
+    Ok(vec![in rt.alloc(); 0u8; len]?)
+}
+
+/// Fills a buffer from its front, until it is full or the reader has no more: how many bytes came.
+fn fill<R: Read>(reader: &mut R, buf: &mut [u8]) -> io::Result<usize>
+    ensures within { IfOk result (λ n. n ≤ length buf.new) }
+    ensures taken { IfOk result (λ n. Consumes (R.remaining reader.old) (R.remaining reader.new) (take n buf.new)) }
+{
+    let mut len = 0;
+    while len < buf.len() {
+        let read = reader.read(&mut buf[len..])?;
+        if read == 0 {
+            break;
+        }
+        len += read;
+    }
+    Ok(len)
 }

@@ -1,5 +1,5 @@
 -- The boxes of two lists joined, row by row.
-use Rattle.std.proofs.Common.{◌≡◌, ℕ, zero, suc, ◌+◌, ◌*◌, ◌/◌, ◌%◌, ◌^◌, ◌<◌, ◌≤◌, Bool, true, false, cond, ◌&&◌, ◌||◌, List, [], ◌∷◌, ◌++◌, length, get_or, filter, Option, sym, refl, ap, ◌∙◌, subst, ap₂, ⊎_elim, zero-add, arith}
+use Rattle.std.proofs.Common.{◌≡◌, ℕ, zero, suc, ◌+◌, ◌*◌, ◌/◌, ◌%◌, ◌^◌, ◌<◌, ◌≤◌, Bool, true, false, if◌then◌else◌, ◌&&◌, ◌||◌, List, [], ◌∷◌, ◌++◌, length, get_or, Option, sym, refl, ap, ◌∙◌, subst, ap₂, ⊎_elim, zero-add, arith}
 use lib.Bits.{bit_and, bit_or, mask_lt, or_shifted_r}
 use denote.Param.Members.{Mut}
 use Rattle.std.specs.Fn.{Called}
@@ -25,32 +25,41 @@ fold_on {steps = steps} {v = v} g f {s = s} all a r J ran road step start = fold
 
 -- ---- a row: the states that two boxes lead to from one
 
--- the states that b leads to from the states rs
-abbrev pub Row : ℕ → List ℕ → ℕ → Type 0
-Row b rs states = (states < 2 ^ 8) × ((q : ℕ) → q < 8 → has states q ≡ list_any (λ r. pairs b r q) rs)
+-- the states that b leads to from those of the states rs to which a leads from p
+abbrev pub Row : ℕ → ℕ → ℕ → List ℕ → ℕ → Type 0
+Row a b p rs states = (states < 2 ^ 8) × ((q : ℕ) → q < 8 → has states q ≡ list_any (λ r. pairs a p r && pairs b r q) rs)
 
 has_byte : (x q : ℕ) → q < 8 → has (bit_and x 255) q ≡ has x q
 has_byte x q h = ap (λ y. has y q) (and_mask x 8) ∙ has_mod x 8 q h
 
-pub row-none : (b : ℕ) → Row b [] 0
-row-none b = (omega arith, λ q h. has-zero q)
+pub row-none : (a b p : ℕ) → Row a b p [] 0
+row-none a b p = (omega arith, λ q h. has-zero q)
 
-pub row_more : (b : ℕ) (rs : List ℕ) (states r : ℕ) → Row b rs states → Row b (rs ++ r ∷ []) (bit_or states (bit_and (b / 2 ^ (8 * r)) 255))
-row_more b rs states r (small, bits) = (
-  or_lt 8 states (bit_and (b / 2 ^ (8 * r)) 255) small (mask_lt (b / 2 ^ (8 * r)) 8),
-  (λ q h.
-      has-or states (bit_and (b / 2 ^ (8 * r)) 255) q
-      ∙ ap₂ ◌||◌ (bits q h) (has_byte (b / 2 ^ (8 * r)) q h ∙ has_shr b (8 * r) q ∙ sym (or-false (pairs b r q)))
-      ∙ sym (list_any-append (λ s. pairs b s q) rs (r ∷ []))),
-)
+-- what the turn at the state r makes of the states
+abbrev pub stepped : ℕ → Bool → ℕ → ℕ → ℕ
+stepped b leads states r = if leads then bit_or states (bit_and (b / 2 ^ (8 * r)) 255) else states
 
-any-filter : (f g : ℕ → Bool) (xs : List ℕ) → list_any f (filter g xs) ≡ list_any (λ x. g x && f x) xs
-any-filter f g [] = refl
-any-filter f g (x ∷ xs) = go (g x) (any-filter f g xs)
+pub row_more : (a b p : ℕ) (rs : List ℕ) (states r : ℕ) → Row a b p rs states → Row a b p (rs ++ r ∷ []) (stepped b (pairs a p r) states r)
+row_more a b p rs states r (small, bits) = go (pairs a p r) refl
   where
-    go : (t : Bool) → list_any f (filter g xs) ≡ list_any (λ y. g y && f y) xs → list_any f (cond t (x ∷ filter g xs) (filter g xs)) ≡ ((t && f x) || list_any (λ y. g y && f y) xs)
-    go true e = ap (λ t. f x || t) e
-    go false e = e
+    f : ℕ → ℕ → Bool
+    f q s = pairs a p s && pairs b s q
+
+    last : (q : ℕ) (t : Bool) → pairs a p r ≡ t → (t && pairs b r q) ≡ list_any (f q) (r ∷ [])
+    last q t e = sym (or-false (t && pairs b r q)) ∙ ap (λ u. (u && pairs b r q) || false) (sym e)
+
+    go : (t : Bool) → pairs a p r ≡ t → Row a b p (rs ++ r ∷ []) (stepped b t states r)
+    go true e = (
+      or_lt 8 states (bit_and (b / 2 ^ (8 * r)) 255) small (mask_lt (b / 2 ^ (8 * r)) 8),
+      (λ q h.
+          has-or states (bit_and (b / 2 ^ (8 * r)) 255) q
+          ∙ ap₂ ◌||◌ (bits q h) (has_byte (b / 2 ^ (8 * r)) q h ∙ has_shr b (8 * r) q ∙ last q true e)
+          ∙ sym (list_any-append (f q) rs (r ∷ []))),
+    )
+    go false e = (
+      small,
+      (λ q h. bits q h ∙ sym (or-false (list_any (f q) rs)) ∙ ap (λ u. list_any (f q) rs || u) (last q false e) ∙ sym (list_any-append (f q) rs (r ∷ []))),
+    )
 
 any_range : (f : ℕ → Bool) (a n : ℕ) → list_any f (range_with_len a n) ≡ true → (k : ℕ) × (k < a + n) × (f k ≡ true)
 any_range f a zero e = absurd (false≢true e)
@@ -62,9 +71,8 @@ any_below f n = same_tests _ _ (λ e. let w = any_range f 0 n e in (some_is n f)
     (λ e. let w = (some_is n f).0 e in
     list_any_at f (range_with_len 0 n) w.0 0 (omega (arith, w.1, length-range_with_len 0 n)) (ap f (get_or-range_with_len 0 n w.0 0 w.1 ∙ zero-add w.0) ∙ w.2))
 
-pub row_all : (a b p states : ℕ) → Row b (filter (pairs a p) (range_with_len 0 8)) states → (q : ℕ) → q < 8 → has states q ≡ through a b p q
-row_all a b p states row q h =
-    row.1 q h ∙ any-filter (λ r. pairs b r q) (pairs a p) (range_with_len 0 8) ∙ any_below (λ r. pairs a p r && pairs b r q) 8
+pub row_all : (a b p states : ℕ) → Row a b p (range_with_len 0 8) states → (q : ℕ) → q < 8 → has states q ≡ through a b p q
+row_all a b p states row q h = row.1 q h ∙ any_below (λ r. pairs a p r && pairs b r q) 8
 
 -- ---- the rows one after another
 

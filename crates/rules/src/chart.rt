@@ -27,9 +27,13 @@ fn row(a: BoxWord, b: BoxWord, p: u32) -> u64
     ensures small { result < 2 ^ 8 }
     ensures bits { (q : ℕ) → q < 8 → has result q ≡ through a b p q }
 {
-    (0..8)
-        .filter(|r| (a >> (8 * p + *r)) & 1 == 1)
-        .fold(0, |states, r| states | (b >> (8 * r)) & 0xff)
+    (0..8).fold(0, |states, r| {
+        if (a >> (8 * p + r)) & 1 == 1 {
+            states | (b >> (8 * r)) & 0xff
+        } else {
+            states
+        }
+    })
 }
 
 fn compose(a: BoxWord, b: BoxWord) -> BoxWord

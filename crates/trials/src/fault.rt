@@ -3,7 +3,7 @@ use foundation::refusal::Refusal;
 use std::alloc::AllocError;
 use thiserror::Error;
 
-#[derive(Debug, Drop, Error)]
+#[derive(Clone, Copy, Debug, Error)]
 pub enum Fault {
     /// The line does not have the format of a case.
     #[error("malformed")]

@@ -65,25 +65,41 @@ pub fn read_number<N: FromStr<Err = ParseIntError>>(word: &str) -> Result<N, Fau
     word.parse::<N>().map_err(|_| Fault::Malformed)
 }
 
+// No `try_collect`: it takes half as long again as a `push` for each number.
 pub fn read_numbers(heap: Global, word: &str) -> Result<Vec<u8>, Fault> {
-    if word == NOTHING {
-        return Ok(Vec::new(heap));
+    let mut numbers = Vec::new(heap);
+    if word != NOTHING {
+        word.split(',').try_for_each(|number| -> Result<(), Fault> {
+            numbers.push(read_number::<u8>(number)?)?;
+            Ok(())
+        })?;
     }
-    word.split(',')
-        .map(|number| read_number::<u8>(number))
-        .try_collect(heap)
+    Ok(numbers)
 }
 
-/// Bytes in base sixteen. The letters are small, so the capitals that `decode` would take are refused.
+/// Bytes in base sixteen, with small letters. All digits are looked at first, since `decode` would take
+/// capitals too, and wants memory before it comes to a wrong digit.
 fn read_bytes(heap: Global, word: &str) -> Result<Vec<u8>, Fault> {
     if word == NOTHING {
         return Ok(Vec::new(heap));
     }
-    if word.bytes().any(|byte| byte.is_ascii_uppercase()) {
+    if !are_digits(word.as_bytes()) {
         return Err(Fault::Malformed);
     }
     hex::decode(heap, word).map_err(|error| match error {
         FromHexError::OutOfMemory => Fault::Memory(AllocError),
         _ => Fault::Malformed,
     })
+}
+
+/// Whether all bytes are digits of base sixteen. No `all`: a fold without a branch looks at many at once,
+/// and an early end would take twice the time on a word that is right.
+fn are_digits(bytes: &[u8]) -> bool {
+    bytes
+        .iter()
+        .fold(true, |so_far, byte| so_far & is_digit(*byte))
+}
+
+fn is_digit(byte: u8) -> bool {
+    byte.is_ascii_digit() | (byte.wrapping_sub(b'a') < 6)
 }
