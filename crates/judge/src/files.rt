@@ -1,6 +1,6 @@
 //! Reading the front of a file.
-ghost use Rattle.std.specs.Prelude.{◌≡◌, ◌≤◌, length, take, IfSome, IfOk, vec_len, vec_items};
-ghost use Rattle.std.specs.Io.KnownBytes.{Consumes};
+ghost use Rattle.std.specs.Prelude.{◌≡◌, ◌<◌, ◌≤◌, length, take, IfSome, IfOk, vec_len, vec_items};
+ghost use Rattle.std.specs.Io.KnownBytes.{Consumes, IsAtEnd};
 
 use std::fs::File;
 use std::io;
@@ -20,11 +20,12 @@ pub fn read_front(rt: &HostRuntime, path: &str) -> io::Result<Option<Vec<u8>>>
     }
 }
 
-/// What is taken from the reader is what is handed on, and nothing besides; `read_to_end` on a `take` would
-/// not promise that.
+/// What is taken from the reader is what is handed on, and nothing besides, and a shorter front is all that
+/// there was; `read_to_end` on a `take` would not promise the first.
 fn front_of<R: Read>(rt: &HostRuntime, reader: &mut R) -> io::Result<Vec<u8>>
     ensures few { IfOk result (λ bytes. vec_len bytes ≤ 16384) }
     ensures taken { IfOk result (λ bytes. Consumes (R.remaining reader.old) (R.remaining reader.new) (vec_items bytes)) }
+    ensures whole { IfOk result (λ bytes. vec_len bytes < 16384 → IsAtEnd (R.remaining reader.new)) }
 {
     let mut bytes = zeros(rt, MOST_BYTES)?;
     let len = fill(reader, &mut bytes)?;
@@ -43,6 +44,7 @@ fn zeros(rt: &HostRuntime, len: usize) -> io::Result<Vec<u8>>
 fn fill<R: Read>(reader: &mut R, buf: &mut [u8]) -> io::Result<usize>
     ensures within { IfOk result (λ n. n ≤ length buf.new) }
     ensures taken { IfOk result (λ n. Consumes (R.remaining reader.old) (R.remaining reader.new) (take n buf.new)) }
+    ensures whole { IfOk result (λ n. n < length buf.new → IsAtEnd (R.remaining reader.new)) }
 {
     let mut len = 0;
     while len < buf.len() {

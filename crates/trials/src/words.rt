@@ -65,7 +65,7 @@ pub fn read_number<N: FromStr<Err = ParseIntError>>(word: &str) -> Result<N, Fau
     word.parse::<N>().map_err(|_| Fault::Malformed)
 }
 
-// No `try_collect`: it takes half as long again as a `push` for each number.
+// No `try_collect`: long lists took up to half as long again by it.
 pub fn read_numbers(heap: Global, word: &str) -> Result<Vec<u8>, Fault> {
     let mut numbers = Vec::new(heap);
     if word != NOTHING {
@@ -92,8 +92,8 @@ fn read_bytes(heap: Global, word: &str) -> Result<Vec<u8>, Fault> {
     })
 }
 
-/// Whether all bytes are digits of base sixteen. No `all`: a fold without a branch looks at many at once,
-/// and an early end would take twice the time on a word that is right.
+/// Whether all bytes are digits of base sixteen. No `all`: a fold without a branch looks at many at once, and
+/// with an early end a word that is right took twice the instructions.
 fn are_digits(bytes: &[u8]) -> bool {
     bytes
         .iter()
