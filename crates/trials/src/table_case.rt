@@ -89,8 +89,8 @@ fn write_table<W: fmt::Write>(table: &EffectTable, f: &mut fmt::Formatter<W>) ->
 
 /// One number for all joins, row by row. A number that is no effect's has no join.
 fn join_checksum(table: &EffectTable) -> u32 {
-    (0..MOST_EFFECTS).fold(0, |rows, i| {
-        (0..MOST_EFFECTS).fold(rows, |checksum: u32, j| {
+    (0..MOST_EFFECTS).fold(0, |checksum, i| {
+        (0..MOST_EFFECTS).fold(checksum, |checksum: u32, j| {
             if let Some(number) = table.join(i, j) {
                 checksum.wrapping_mul(31).wrapping_add(u32::from(number)) % 65521
             } else {
